@@ -1,0 +1,12 @@
+-- What is to be believed, from top to bottom.
+pub mod Basics
+pub mod Prefix
+pub mod Pool
+pub mod Entries
+pub mod Check
+pub mod Lists
+pub mod Tidy
+pub mod Outcome
+-- The worked cases, computed.
+-- The worked cases, computed.
+pub mod Cases
