@@ -10,3 +10,6 @@ pub mod Outcome
 -- The worked cases, computed.
 -- The worked cases, computed.
 pub mod Cases
+-- What the definitions come to: laws.
+pub mod Lemmas
+pub mod PrefixLaws
