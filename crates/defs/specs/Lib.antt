@@ -13,3 +13,6 @@ pub mod Cases
 -- What the definitions come to: laws.
 pub mod Lemmas
 pub mod PrefixLaws
+pub mod OrderLaws
+pub mod NodeLaws
+pub mod EntryLaws
