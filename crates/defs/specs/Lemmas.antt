@@ -88,6 +88,10 @@ module _ {A B : Type 0} where
   map-append f [] b = refl
   map-append f (x ∷ a) b = ap (f x ∷_) (map-append f a b)
 
+  pub map-ext : (f g : A → B) → ((x : A) → f x ≡ g x) → (a : List A) → map f a ≡ map g a
+  map-ext f g h [] = refl
+  map-ext f g h (x ∷ a) = rw (h x, map-ext f g h a)
+
   pub map-on : {P : A → Type 0} (f g : A → B) → ((x : A) → P x → f x ≡ g x) → {a : List A} → All P a → map f a ≡ map g a
   map-on f g e nil = refl
   map-on f g e (more {x = x} h hs) = rw (e x h, map-on f g e hs)

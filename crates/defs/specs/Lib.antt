@@ -10,9 +10,12 @@ pub mod Outcome
 -- The worked cases, computed.
 -- The worked cases, computed.
 pub mod Cases
+pub mod Borders
 -- What the definitions come to: laws.
 pub mod Lemmas
 pub mod PrefixLaws
 pub mod OrderLaws
 pub mod NodeLaws
 pub mod EntryLaws
+pub mod ListLaws
+pub mod OutcomeLaws

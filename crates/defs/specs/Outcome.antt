@@ -71,12 +71,15 @@ pub record Listed : Type 0 where
   pub answer : Answer
   pub output : List ℕ
 
+-- the rows of a list call that needs so many records
+abbrev pub listRows : ℕ → Side → Side → ℕ → List ℕ → List Row
+listRows width l r needed out = sideRows width l r ++ (roomRow 6 needed (length out / recordWords) ∷ [])
+
 -- a list call
 abbrev pub listOutcome : Operation → ℕ → Side → Side → List ℕ → Listed
 listOutcome op width l r out =
     let records = recordsOf op (entriesOf l) (entriesOf r) in
-    let rows = sideRows width l r ++ (roomRow 6 (length records) (length out / recordWords) ∷ []) in
-    let a = firstOf rows (length records) in
+    let a = firstOf (listRows width l r (length records) out) (length records) in
     record { answer = a; output = written a (each wordsOf records) out }
 
 -- key equality: 1 for yes, 0 for no
@@ -89,17 +92,23 @@ pub record Tidied : Type 0 where
   pub output : List ℕ
   pub values : List ℕ
 
+-- the rows of tidying, where so many nodes and entries are needed
+abbrev pub tidyRows : ℕ → Side → ℕ → ℕ → List ℕ → List ℕ → List Row
+tidyRows width s nodes entries out values =
+    widthRow width ∷ faultRow 2 width s ∷ rootRow 4 width s ∷ roomRow 6 nodes (length out / 4) ∷ roomRow 7 entries (length values) ∷ []
+
 -- tidying
 abbrev pub tidyOutcome : ℕ → Side → List ℕ → List ℕ → Tidied
 tidyOutcome width s out values =
     let es = entriesOf s in
     let nodes = length (nodesOf es) in
-    let rows = widthRow width ∷ faultRow 2 width s ∷ rootRow 4 width s ∷ roomRow 6 nodes (length out / 4) ∷ roomRow 7 (length es) (length values) ∷ [] in
-    let a = firstOf rows nodes in
+    let a = firstOf (tidyRows width s nodes (length es) out values) nodes in
     record { answer = a; output = written a (tidyPool es) out; values = written a (tidyValues es) values }
 
--- the check alone: its second number is the fault's
+-- the rows of the check alone; the second number is the fault's
+abbrev pub checkRows : ℕ → List ℕ → List Row
+checkRows width w = let f = faultOf width w in widthRow width ∷ row (ltb 0 (f .number)) (answer 2 (f .node) (f .number)) ∷ []
+
+-- the check alone
 abbrev pub checkOutcome : ℕ → List ℕ → Answer
-checkOutcome width w =
-    let f = faultOf width w in
-    firstOf (widthRow width ∷ row (ltb 0 (f .number)) (answer 2 (f .node) (f .number)) ∷ []) (nodeCount w)
+checkOutcome width w = firstOf (checkRows width w) (nodeCount w)

@@ -1,0 +1,22 @@
+# What one does with this repository. 'make help' lists it.
+.PHONY: help test prove vectors clean
+
+help: ## this list
+	@grep -hE '^[a-z]+:.*## ' $(MAKEFILE_LIST) | sed -E 's/:.*## /	/' | expand -t 12
+
+test: ## the whole test suite: proofs, must-fail edits, programs, Rust tests
+	@tests/run
+
+prove: ## prove what changed since the last run; quick, and not the verdict
+	@tests/tools
+	@rt check
+
+vectors: ## make the stored vectors anew from the Rust reference
+	@tests/tools
+	@mkdir -p build
+	@cargo run --offline --release --quiet --manifest-path rust/Cargo.toml -p reference --bin make-vectors > build/vectors.txt
+	@mv build/vectors.txt vectors/cases.txt
+	@git diff --stat -- vectors/cases.txt
+
+clean: ## remove what was built
+	rm -rf target build rust/target
