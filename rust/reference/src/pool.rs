@@ -92,7 +92,7 @@ pub(crate) fn last_depth(width: u32) -> u32 {
 /// The first fault in the document's order, or none; the width is 32 or 64.
 pub(crate) fn first_fault(width: u32, words: &[u32]) -> Option<Fault> {
     let at_root = |number| Some(Fault { number, node: 0 });
-    if words.is_empty() || words.len() % NODE_WORDS != 0 {
+    if words.is_empty() || !words.len().is_multiple_of(NODE_WORDS) {
         return at_root(1);
     }
     let count = words.len() / NODE_WORDS;
