@@ -1,3 +1,5 @@
 pub mod Covering
 pub mod Nodes
 pub mod Picks
+pub mod Sides
+pub mod Down
