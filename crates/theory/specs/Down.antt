@@ -2,8 +2,6 @@
 use mathlib.Core.Path.{_≡_, refl, sym, _∙_, ap, subst}
 use mathlib.Core.Bool.{Bool, true, false, _&&_, _||_, and-false}
 use mathlib.Core.List.{List, [], _∷_, _++_, append-nil}
-use mathlib.Core.Logic.{⊎-elim}
-use mathlib.Core.Option.{none}
 use Prim.Native.Nat.{ℕ, zero, suc, _+_, _*_, _-_, _/_, _%_, _^_, _≤_, _<_}
 use native.Mathlib.Omega.{arith}
 use native.Mathlib.Nat.{div-add-mod', mod-lt, mul-assoc, add-mul, div-one}
@@ -19,6 +17,7 @@ use Rattle.defs.specs.Lemmas.{split, not-both, is-false, each-append}
 use Rattle.defs.specs.PrefixLaws.{Whole, cut, cut-at, leads-of, leads-len, leads-first, leads-trans, leads-same, shorter}
 use Rattle.theory.specs.declared.Node.{Node}
 use Rattle.theory.specs.declared.Node.the-variants.{Absent, At}
+use Rattle.theory.specs.declared.Value.the-variants.{Missing, Is}
 use Rattle.theory.specs.Sides.{sideHeld, sideEntries, onPath, childIn, valueIn, entryAt, side-places, side-data, side-child}
 
 module _ (p : Prefix) (w : Whole p) (n : ℕ) (short : p .len + n ≤ 64) where
@@ -96,13 +95,13 @@ module _ (w : List ℕ) (root : Prefix) (levels : ℕ) (o : Node) (p : Prefix) (
   short : p .len + 5 ≤ root .len
   short = leads-len (deeper p 5 c) root h
 
-  no-data : (n v : ℕ) → n ≤ 4 → valueIn w root o n v (deeper p n v) ≡ none
+  no-data : (n v : ℕ) → n ≤ 4 → valueIn w root o n v (deeper p n v) ≡ Missing
   no-data n v l = go o
     where
       longer : leads root (deeper p n v) ≡ false
       longer = is-false _ (λ i. omega (arith, leads-len root (deeper p n v) i, short))
 
-      go : (o : Node) → valueIn w root o n v (deeper p n v) ≡ none
+      go : (o : Node) → valueIn w root o n v (deeper p n v) ≡ Missing
       go Absent = refl
       go (At i) = rw (longer, and-false (bit (dataBit n v) (dataOf w i)))
 

@@ -3,3 +3,8 @@ pub mod Nodes
 pub mod Picks
 pub mod Sides
 pub mod Down
+pub mod Contexts
+pub mod Todo
+pub mod Steps
+pub mod StepLaws
+pub mod Unwanted

@@ -139,19 +139,36 @@ find-self (e ∷ a) (then-after h hs) =
     (all-both (all-unmap (λ (x : Entry). x .at) a h) (find-self a hs)))
 
 -- a cover is no longer than 64, so the mark of a missing one is never a cover
-longest-short : (c : Option Entry) (a : List Entry) (p : Prefix) → (has c ≡ true → coverOf c ≤ 64) → All Real (prefixes a) → has (longest c a p) ≡ true → coverOf (longest c a p) ≤ 64
+pub longest-short : (c : Option Entry) (a : List Entry) (p : Prefix) → (has c ≡ true → coverOf c ≤ 64) → All Real (prefixes a) → has (longest c a p) ≡ true → coverOf (longest c a p) ≤ 64
 longest-short c [] p h k = h
 longest-short c (e ∷ a) p h (more u us) =
     split (leads (e .at) p) (λ l. rw l (longest-short (some e) a p (λ i. u .1) us)) (λ l. rw l (longest-short c a p h us))
+
+pub whole-of : {a : List Entry} → Good a → All Whole (prefixes a)
+whole-of g = all-imp (λ p k. k .0) (g .real)
+
+pub in-own : (a : List Entry) → All (λ p. isIn p a ≡ true) (prefixes a)
+in-own [] = nil
+in-own (e ∷ a) = more {x = e .at} (rw (same-self (e .at))) (all-imp (λ p h. rw h (or-true (same p (e .at)))) (in-own a))
+
+-- an entry leads its own prefix
+pub led-in : (a : List Entry) (p : Prefix) → isIn p a ≡ true → isLed p a ≡ true
+led-in [] p h = h
+led-in (e ∷ a) p h =
+    split (same p (e .at)) (λ q. rw (same-says p (e .at) q) (rw (leads-self (e .at)))) (λ q. rw (led-in a p (rw q at h)) (or-true (leads (e .at) p)))
+
+pub in-led : (a : List Entry) (p : Prefix) → isLed p a ≡ false → isIn p a ≡ false
+in-led a p h = split (isIn p a) (λ i. not-both (led-in a p i) h) (λ i. i)
+
+-- the longest entry that leads one of a list's own prefixes is its own
+pub own-in : (c : Option Entry) (a : List Entry) (p : Prefix) → Good a → Whole p → own p c ≡ false → own p (longest c a p) ≡ isIn p a
+own-in c a p g w o = sym (has-mine p (longest c a p)) ∙ ap has (find-longest c a p w (g .real) (g .asc) o) ∙ has-find p a
 
 keep-picks : (op : Operation) (rs : List Record) → picks op rs ≡ map (made op) (keep (takes op) rs)
 keep-picks op [] = refl
 keep-picks op (r ∷ rs) = split (takes op r) (λ e. rw (e, keep) (ap (made op r ∷_) (keep-picks op rs))) (λ e. rw (e, keep) (keep-picks op rs))
 
 module _ (l r : List Entry) (gl : Good l) (gr : Good r) where
-  whole-of : {a : List Entry} → Good a → All Whole (prefixes a)
-  whole-of g = all-imp (λ p k. k .0) (g .real)
-
   -- the covering union's record of a prefix
   abbrev F : Prefix → Record
   F p = recordAt p (longest none l p) (longest none r p)
@@ -163,10 +180,10 @@ module _ (l r : List Entry) (gl : Good l) (gr : Good r) where
   mine-right p w = find-longest none r p w (gr .real) (gr .asc) refl
 
   own-left : (p : Prefix) → Whole p → own p (longest none l p) ≡ isIn p l
-  own-left p w = sym (has-mine p (longest none l p)) ∙ ap has (mine-left p w) ∙ has-find p l
+  own-left p w = own-in none l p gl w refl
 
   own-right : (p : Prefix) → Whole p → own p (longest none r p) ≡ isIn p r
-  own-right p w = sym (has-mine p (longest none r p)) ∙ ap has (mine-right p w) ∙ has-find p r
+  own-right p w = own-in none r p gr w refl
 
   -- a prefix of either side
   abbrev Listed : Prefix → Type 0
@@ -180,10 +197,6 @@ module _ (l r : List Entry) (gl : Good l) (gr : Good r) where
 
   covered-F : (p : Prefix) → Listed p → covered p (find p l) (find p r) (longest none l p) (longest none r p) ≡ F p
   covered-F p h = rw (← mine-left p (h .0), ← mine-right p (h .0)) (whole-record p (longest none l p) (longest none r p) (own-either p h))
-
-  in-own : (a : List Entry) → All (λ p. isIn p a ≡ true) (prefixes a)
-  in-own [] = nil
-  in-own (e ∷ a) = more {x = e .at} (rw (same-self (e .at))) (all-imp (λ p h. rw h (or-true (same p (e .at)))) (in-own a))
 
   all-listed : All Listed (allOf l r)
   all-listed =
@@ -225,13 +238,6 @@ module _ (l r : List Entry) (gl : Good l) (gr : Good r) where
       go : (o : Option Entry) → has o ≡ isIn p r → none ≡ o
       go none e = refl
       go (some x) e = not-both k (rw (← e))
-
-  -- an entry that is in r leads itself
-  in-led : (a : List Entry) (p : Prefix) → isLed p a ≡ false → isIn p a ≡ false
-  in-led [] p h = refl
-  in-led (e ∷ a) p h =
-      split (leads (e .at) p) (λ i. not-both (rw i) h)
-      (λ i. split (same p (e .at)) (λ q. not-both (rw (same-says p (e .at) q) (leads-self (e .at))) i) (λ q. rw q (in-led a p (rw i at h))))
 
   covers : (a : Bool) (p : Prefix) (m o : Option Entry) → (own p o ≡ true → has o ≡ true) → (has o ≡ true → coverOf o ≤ 64)
       → (eqb (tagOf a (own p o)) 1 && eqb (coverAt a (own p o) m o) noCover) ≡ (a && not (has o))

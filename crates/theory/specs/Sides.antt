@@ -3,7 +3,6 @@ use mathlib.Core.Path.{_≡_, refl, sym, _∙_, ap, subst}
 use mathlib.Core.Bool.{Bool, true, false, _&&_, _||_}
 use mathlib.Core.List.{List, [], _∷_, _++_, map}
 use mathlib.Core.Logic.{⊎-elim}
-use mathlib.Core.Option.{Option, none, some}
 use Prim.Native.Nat.{ℕ, zero, suc, _+_, _*_, _≤_}
 use native.Mathlib.Omega.{arith}
 use Rattle.defs.specs.declared.Prefix.{Prefix}
@@ -18,6 +17,8 @@ use Rattle.defs.specs.NodeLaws.{Led, Fits}
 use Rattle.defs.specs.EntryLaws.{Sound, sound, held-fits, prefixes-under}
 use Rattle.theory.specs.declared.Node.{Node}
 use Rattle.theory.specs.declared.Node.the-variants.{Absent, At}
+use Rattle.theory.specs.declared.Value.{Value}
+use Rattle.theory.specs.declared.Value.the-variants.{Missing, Is}
 
 -- what a place of a side's node of prefix p holds of the view at the root, `levels` nodes below
 abbrev pub sideHeld : List ℕ → Prefix → ℕ → Node → Prefix → Place → List Entry
@@ -39,15 +40,15 @@ childIn w root Absent c q = Absent
 childIn w root (At i) c q = if bit c (childOf w i) && onPath root q then At (firstChild w i + rank c (childOf w i)) else Absent
 
 -- the value at the data place of n bits of value v, of prefix q, where there is one and the root leads it
-abbrev pub valueIn : List ℕ → Prefix → Node → ℕ → ℕ → Prefix → Option ℕ
-valueIn w root Absent n v q = none
+abbrev pub valueIn : List ℕ → Prefix → Node → ℕ → ℕ → Prefix → Value
+valueIn w root Absent n v q = Missing
 valueIn w root (At i) n v q =
-    if bit (dataBit n v) (dataOf w i) && leads root q then some (firstValue w i + rank (dataBit n v) (dataOf w i)) else none
+    if bit (dataBit n v) (dataOf w i) && leads root q then Is (firstValue w i + rank (dataBit n v) (dataOf w i)) else Missing
 
 -- the entry of prefix q with a value, or none
-abbrev pub entryAt : Prefix → Option ℕ → List Entry
-entryAt q none = []
-entryAt q (some v) = record { at = q; value = v } ∷ []
+abbrev pub entryAt : Prefix → Value → List Entry
+entryAt q Missing = []
+entryAt q (Is v) = record { at = q; value = v } ∷ []
 
 under-each : (root : Prefix) (f : Place → List Entry) (xs : List Place) → under root (each f xs) ≡ each (λ x. under root (f x)) xs
 under-each root f [] = refl
