@@ -8,3 +8,4 @@ pub mod Todo
 pub mod Steps
 pub mod StepLaws
 pub mod Unwanted
+pub mod Walk
