@@ -1,4 +1,4 @@
--- How the leaves work their definitions out. Callers need none of this.
+-- How the leaves work their definitions out: what their proofs cite, and callers need not.
 use mathlib.Core.Path.{_≡_, refl, sym, ap, _∙_, subst}
 use mathlib.Core.Bool.{Bool, true, false, _||_}
 use Prim.Native.Nat.{ℕ, _+_, _-_, _*_, _/_, _%_, _^_, _≤_, _<_}

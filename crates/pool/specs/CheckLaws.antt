@@ -10,6 +10,7 @@ use lib.Dec.{leb, ltb, eqb, eqb·suc-zero}
 use lib.Pow.{pow-pos, pow-mono}
 use lib.ListN.{length, replicate, replicate-append-replicate}
 use borrow.Author.Tests.{not-true, not-false, ltb-true, eqb-true, le-leb, lt-leb, lt-ltb, le-ltb, eq-eqb, ne-eqb}
+use Rattle.defs.specs.Basics.{if_then_else_}
 use Rattle.defs.specs.Lemmas.{split}
 use Rattle.defs.specs.Pool.{nodeCount, dataOf, childOf, firstChild, firstValue, ones, dataBit}
 use Rattle.defs.specs.Check.{Fault, poolLimit, usable, faultAt, faultFrom, faultOf}
@@ -35,59 +36,29 @@ limit n h =
     let f : 1 * 2 ^ n % 2 ^ 32 - 1 ≡ dataBit n 0 = omega arith in
     record { some = omega arith; small = omega arith; is = rw f (one-shl 32 (dataBit n 0) (omega arith)) }
 
--- ---- the faults 4 to 8, one test after the other
+-- the test for fault 5
+module _ (width depth child : ℕ) where
+  pub deep-is : width ≤ depth + 4 → ltb 0 child ≡ (leb width (depth + 4) && ltb 0 child)
+  deep-is h = rw (le-leb width (depth + 4) h)
+
+  pub deep-not : depth + 4 < width → false ≡ (leb width (depth + 4) && ltb 0 child)
+  deep-not h = rw (lt-leb width (depth + 4) h)
+
+-- ---- the faults 4 to 8, in their order, from what was read of a node
 
 module _ (width : ℕ) (w : List ℕ) (i depth children values : ℕ) where
-  abbrev Found : ℕ → Type 0
-  Found n = n ≡ faultAt width w i depth children values
-
-  pub fault-4 : 2 ^ usable width depth ≤ dataOf w i → Found 4
-  fault-4 h = rw (le-leb (2 ^ usable width depth) (dataOf w i) h)
-
-  module _ (data-fits : dataOf w i < 2 ^ usable width depth) where
-    pub fault-5 : (leb width (depth + 4) && ltb 0 (childOf w i)) ≡ true → Found 5
-    fault-5 h = rw (lt-leb (2 ^ usable width depth) (dataOf w i) data-fits, h)
-
-    module _ (no-child : (leb width (depth + 4) && ltb 0 (childOf w i)) ≡ false) where
-      pub fault-6 : (firstChild w i ≡ 1 + children → ⊥) → Found 6
-      fault-6 h =
-          rw (lt-leb (2 ^ usable width depth) (dataOf w i) data-fits, no-child, ne-eqb (firstChild w i) (1 + children) h)
-
-      module _ (first : firstChild w i ≡ 1 + children) where
-        pub fault-7 : nodeCount w < firstChild w i + ones (childOf w i) → Found 7
-        fault-7 h =
-            rw (
-              lt-leb (2 ^ usable width depth) (dataOf w i) data-fits,
-              no-child,
-              eq-eqb (firstChild w i) (1 + children) first,
-              lt-ltb (nodeCount w) (firstChild w i + ones (childOf w i)) h,
-            )
-
-        module _ (room : firstChild w i + ones (childOf w i) ≤ nodeCount w) where
-          pub fault-8 : (firstValue w i ≡ values → ⊥) → Found 8
-          fault-8 h =
-              rw (
-                lt-leb (2 ^ usable width depth) (dataOf w i) data-fits,
-                no-child,
-                eq-eqb (firstChild w i) (1 + children) first,
-                le-ltb (nodeCount w) (firstChild w i + ones (childOf w i)) room,
-                ne-eqb (firstValue w i) values h,
-              )
-
-          pub no-fault : firstValue w i ≡ values → Found 0
-          no-fault h =
-              rw (
-                lt-leb (2 ^ usable width depth) (dataOf w i) data-fits,
-                no-child,
-                eq-eqb (firstChild w i) (1 + children) first,
-                le-ltb (nodeCount w) (firstChild w i + ones (childOf w i)) room,
-                eq-eqb (firstValue w i) values h,
-              )
-
--- the test for fault 5, of a child bitmap that was read
-pub read-child : (width depth k child : ℕ) (t b : Bool) → t ≡ (leb width (depth + 4) && ltb 0 k) → k ≡ child → t ≡ b
-    → (leb width (depth + 4) && ltb 0 child) ≡ b
-read-child width depth k child t b e r h = sym (ap (λ (x : ℕ). leb width (depth + 4) && ltb 0 x) r) ∙ sym e ∙ h
+  pub in-order : (limit data-bits child first kids value : ℕ) (deep : Bool)
+      → limit ≡ 2 ^ usable width depth → data-bits ≡ dataOf w i → child ≡ childOf w i → first ≡ firstChild w i → kids ≡ ones child → value ≡ firstValue w i
+      → deep ≡ (leb width (depth + 4) && ltb 0 child)
+      → (from-8 from-7 from-6 from-5 from-4 : ℕ)
+      → from-8 ≡ (if not (eqb value values) then 8 else 0)
+      → from-7 ≡ (if ltb (nodeCount w) (first + kids) then 7 else from-8)
+      → from-6 ≡ (if not (eqb first (1 + children)) then 6 else from-7)
+      → from-5 ≡ (if deep then 5 else from-6)
+      → from-4 ≡ (if leb limit data-bits then 4 else from-5)
+      → from-4 ≡ faultAt width w i depth children values
+  in-order limit data-bits child first kids value deep el ed ec ef ek ev et f8 f7 f6 f5 f4 g8 g7 g6 g5 g4 =
+      rw (g4, g5, g6, g7, g8, et, ek, el, ed, ec, ef, ev)
 
 -- ---- one node
 

@@ -4,6 +4,7 @@ ghost use mathlib.Core.Bool.{_&&_, _||_};
 ghost use mathlib.Core.List.{[], _∷_};
 ghost use Prim.Native.Nat.{suc, _+_, _-_, _≤_, _<_, _^_, min};
 ghost use lib.Dec.{leb, ltb, eqb};
+ghost use Rattle.defs.specs.Basics.{if_then_else_};
 ghost use Rattle.defs.specs.Pool.{nodeCount, dataOf, childOf, firstChild, firstValue};
 ghost use Rattle.defs.specs.Check.{poolLimit, usable, faultAt, faultFrom};
 ghost use Rattle.defs.specs.Outcome.{answer, checkOutcome};
@@ -105,29 +106,31 @@ fn too_deep(width: u32, depth: u32, child: u32) -> bool
     false
 }
 
+// A fault where its test holds, and otherwise what the later tests find.
+fn fault_or(holds: bool, fault: u32, later: u32) -> u32
+    ensures { λ r. ⌜ r ≡ (if holds then fault else later) ⌝ }
+{
+    if holds { fault } else { later }
+}
+
 // The first of the faults 4 to 8 at node i, or 0.
 fn node_fault(width: u32, words: &[u32], i: usize, c: Count) -> u32
     requires { ⌜ (i < nodeCount (now words)) × (nodeCount (now words) ≤ poolLimit) × (width ≤ 64) × Bounded (suc i) i c ⌝ }
     ensures { λ r. ⌜ r ≡ faultAt width (now (words .entry)) i (c .depth) (c .children) (c .values) ⌝ }
 {
-    if data_limit(width, c.depth) <= data_bits(words, i) {
-        return 4;
-    }
     let child = child_bits(words, i);
-    if too_deep(width, c.depth, child) {
-        return 5;
-    }
     let first = first_child(words, i);
-    if first != 1 + c.children {
-        return 6;
-    }
-    if words.len() / 4 < (first as usize) + (bits::ones(child) as usize) {
-        return 7;
-    }
-    if first_value(words, i) != c.values {
-        return 8;
-    }
-    0
+    let end = (first as usize) + (bits::ones(child) as usize);
+    let bad_data = data_limit(width, c.depth) <= data_bits(words, i);
+    let bad_child = too_deep(width, c.depth, child);
+    let bad_first = first != 1 + c.children;
+    let bad_end = words.len() / 4 < end;
+    let bad_value = first_value(words, i) != c.values;
+    let from_8 = fault_or(bad_value, 8, 0);
+    let from_7 = fault_or(bad_end, 7, from_8);
+    let from_6 = fault_or(bad_first, 6, from_7);
+    let from_5 = fault_or(bad_child, 5, from_6);
+    fault_or(bad_data, 4, from_5)
 }
 
 // Where no node of this level is left, the next level begins.
