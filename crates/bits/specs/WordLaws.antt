@@ -5,11 +5,12 @@ use Prim.Native.Nat.{ℕ, zero, suc, _+_, _-_, _/_, _%_, _^_, _≤_, _<_}
 use native.Mathlib.Omega.{arith}
 use native.Mathlib.Nat.{mod-lt, mod-eq-of-lt, div-eq-of-lt, div-one, zero-lt-suc, not-suc-le-zero, le-of-suc-le-suc, lt-of-lt-of-le, lt-of-not-le, pow-succ'}
 use native.Mathlib.Numerals.{add-one}
-use lib.Dec.{eqb}
+use lib.Dec.{ltb, eqb}
 use lib.Arith.{lt-one}
 use lib.Pow.{pow-pos, pow-mono, shr-shr, field, mod-mod-pow}
 use lib.Count.{onesIn, ones-step, ones as allOnes}
-use borrow.Author.Tests.{eqb-true}
+use borrow.Author.Tests.{ltb-true, ltb-false, eqb-true, eq-eqb}
+use Rattle.defs.specs.Lemmas.{split}
 use Rattle.defs.specs.Pool.{bit, rank, ones}
 
 -- ---- bits
@@ -91,6 +92,18 @@ rank-suc zero x = let e = div-one x in omega (arith, ap (_% 2) e)
 rank-suc (suc b) x =
     let e : x / 2 / 2 ^ b ≡ x / 2 ^ suc b = shr-shr x 1 b ∙ ap (λ (y : ℕ). x / 2 ^ y) (omega arith) in
     omega (arith, rank-suc b (x / 2), ap (_% 2) e)
+
+-- each rank that is counted is that of a set bit
+pub select : (m x r : ℕ) → r < rank m x → (c : ℕ) × (c < m) × (bit c x ≡ true) × (rank c x ≡ r)
+unfolding onesIn
+select zero x r h = absurd (not-suc-le-zero h)
+select (suc m) x r h =
+    split (ltb r (rank m x)) (λ t. let s = select m x r (ltb-true r (rank m x) t) in (s .0, omega (arith, s .1), s .2, s .3))
+    (λ t.
+    let l = ltb-false r (rank m x) t in
+    let o = rank-suc m x in
+    let b = mod-lt (x / 2 ^ m) (zero-lt-suc 1) in
+    (m, omega arith, eq-eqb (x / 2 ^ m % 2) 1 (omega arith), omega arith))
 
 -- a word has at most 32 ones
 pub ones-le : (x : ℕ) → ones x ≤ 32

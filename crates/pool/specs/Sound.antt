@@ -12,10 +12,10 @@ use lib.Pow.{pow-mono}
 use lib.ListN.{length, getD, replicate, length-append, length-replicate, getD-replicate, List·getD-append}
 use lib.Seq.{getD-append-add}
 use Rattle.defs.specs.Basics.{if_then_else_}
-use Rattle.defs.specs.Lemmas.{All, nil, more, all-append}
+use Rattle.defs.specs.Lemmas.{All, nil, more, all-append, split}
 use Rattle.defs.specs.Pool.{nodeCount, dataOf, childOf, firstChild, firstValue, bit, rank, ones, dataBit}
 use Rattle.defs.specs.Check.{Fault, poolLimit, usable, faultAt, faultFrom, faultOf}
-use Rattle.bits.specs.WordLaws.{bit-low, rank-less, rank-small, ones-zero}
+use Rattle.bits.specs.WordLaws.{bit-low, select, rank-less, rank-small, ones-zero}
 
 -- the child bits of all nodes before node i
 abbrev pub childrenBefore : List ℕ → ℕ → ℕ
@@ -260,6 +260,17 @@ module _ (width : ℕ) (w : List ℕ) (ok : Formed width w) where
   pub values-mono : (m n : ℕ) → m ≤ n → valuesBefore w m ≤ valuesBefore w n
   values-mono m n h = le-ind (λ (k : ℕ). valuesBefore w m ≤ valuesBefore w k) (le-refl _) (λ k l e. omega arith) n h
 
+  pub children-mono : (m n : ℕ) → m ≤ n → childrenBefore w m ≤ childrenBefore w n
+  children-mono m n h = le-ind (λ (k : ℕ). childrenBefore w m ≤ childrenBefore w k) (le-refl _) (λ k l e. omega arith) n h
+
+  -- each node's children stand after those of the node before
+  pub first-next : (i : ℕ) → suc i < nodeCount w → firstChild w (suc i) ≡ firstChild w i + ones (childOf w i)
+  first-next i h = omega (arith, ok .node (suc i) h .child, ok .node i (omega arith) .child)
+
+  -- so the children of two nodes are apart
+  pub children-apart : (i j : ℕ) → i < j → j < nodeCount w → firstChild w i + ones (childOf w i) ≤ firstChild w j
+  children-apart i j l h = omega (arith, ok .node i (omega arith) .child, ok .node j h .child, children-mono (suc i) j l)
+
   -- every node but the root is a child, and no child is missing
   pub children-all : 1 + childrenBefore w (nodeCount w) ≡ nodeCount w
   children-all = go (nodeCount w) refl
@@ -270,6 +281,35 @@ module _ (width : ℕ) (w : List ℕ) (ok : Formed width w) where
           let k = ok .node m (omega arith) in
           let c = ap (childrenBefore w) e in
           omega (arith, k .child, k .later, k .room)
+
+  -- the node whose child k is, and its place there
+  pub record Parent (k : ℕ) : Type 0 where
+    pub node : ℕ
+    pub place : ℕ
+    pub before : node < k
+    pub inside : place < 32
+    pub held : bit place (childOf w node) ≡ true
+    pub number : k ≡ firstChild w node + rank place (childOf w node)
+
+  pub parent : (k : ℕ) → 0 < k → k < nodeCount w → Parent k
+  parent k some h = go (nodeCount w) (le-refl _) (omega (arith, children-all))
+    where
+      go : (n : ℕ) → n ≤ nodeCount w → k < 1 + childrenBefore w n → Parent k
+      go zero l m = absurd (let z : ⊥ = omega arith in z)
+      go (suc n) l m =
+          split (ltb k (1 + childrenBefore w n)) (λ t. go n (omega arith) (ltb-true k (1 + childrenBefore w n) t))
+          (λ t.
+          let a = ltb-false k (1 + childrenBefore w n) t in
+          let o = ok .node n l in
+          let s = select 32 (childOf w n) (k - firstChild w n) (omega (arith, o .child)) in
+          record {
+            node = n;
+            place = s .0;
+            before = omega (arith, o .later, o .child);
+            inside = s .1;
+            held = s .2;
+            number = omega (arith, s .3, o .child);
+          })
 
   -- the child in place c is a later node, one level deeper
   pub child-node : (i c : ℕ) → i < nodeCount w → c < 32 → bit c (childOf w i) ≡ true
@@ -294,8 +334,8 @@ module _ (width : ℕ) (w : List ℕ) (ok : Formed width w) where
       omega (arith, ok .node i h .within)
 
 -- at width 32 the last depth is 30, at width 64 it is 60
-pub depth-32 : (w : List ℕ) → Formed 32 w → (i : ℕ) → i < nodeCount w → depth w i ≤ 30
-depth-32 w ok i h = let k = ok .node i h in omega (arith, k .within, k .fives)
+pub depth-30 : (w : List ℕ) → Formed 32 w → (i : ℕ) → i < nodeCount w → depth w i ≤ 30
+depth-30 w ok i h = let k = ok .node i h in omega (arith, k .within, k .fives)
 
-pub depth-64 : (w : List ℕ) → Formed 64 w → (i : ℕ) → i < nodeCount w → depth w i ≤ 60
-depth-64 w ok i h = let k = ok .node i h in omega (arith, k .within, k .fives)
+pub depth-60 : (width : ℕ) (w : List ℕ) → width ≤ 64 → Formed width w → (i : ℕ) → i < nodeCount w → depth w i ≤ 60
+depth-60 width w l ok i h = let k = ok .node i h in omega (arith, k .within, k .fives)

@@ -74,7 +74,7 @@ enum Step {
 
 // How many lengths a node at a depth has data bits for: those up to 4 bits more that the width allows.
 fn lengths(width: u32, depth: u32) -> u32
-    requires { ⌜ (width ≤ 64) × (depth ≤ 327680) ⌝ }
+    requires { ⌜ (width ≤ 64) × (depth + 5 < 2 ^ 32) ⌝ }
     ensures { λ r. ⌜ r ≡ min 5 (width + 1 - depth) ⌝ }
 {
     if depth + 4 <= width {
@@ -88,7 +88,7 @@ fn lengths(width: u32, depth: u32) -> u32
 
 // The least data bitmap that is too large at a depth: it has a bit for a length above the width, or bit 31.
 fn data_limit(width: u32, depth: u32) -> u32
-    requires { ⌜ (width ≤ 64) × (depth ≤ 327680) ⌝ }
+    requires { ⌜ (width ≤ 64) × (depth + 5 < 2 ^ 32) ⌝ }
     ensures { λ r. ⌜ r ≡ 2 ^ usable width depth ⌝ }
 {
     let bits: u32 = (1 << lengths(width, depth)) - 1;
@@ -97,7 +97,7 @@ fn data_limit(width: u32, depth: u32) -> u32
 
 // A child bit where a child would lie deeper than the width.
 fn too_deep(width: u32, depth: u32, child: u32) -> bool
-    requires { ⌜ depth ≤ 327680 ⌝ }
+    requires { ⌜ depth + 5 < 2 ^ 32 ⌝ }
     ensures { λ r. ⌜ r ≡ (leb width (depth + 4) && ltb 0 child) ⌝ }
 {
     if width <= depth + 4 {
@@ -135,7 +135,7 @@ fn node_fault(width: u32, words: &[u32], i: usize, c: Count) -> u32
 
 // Where no node of this level is left, the next level begins.
 fn at_level(c: Count) -> Count
-    requires { ⌜ c .depth ≤ 327680 ⌝ }
+    requires { ⌜ c .depth + 5 < 2 ^ 32 ⌝ }
     ensures { λ r. ⌜ r ≡ levelOf c ⌝ }
 {
     if 0 < c.here {
