@@ -5,4 +5,5 @@ pub mod Places
 pub mod WordLaws
 pub mod CommonLaws
 pub mod PlaceLaws
+-- How they are worked out: what their proofs cite.
 pub mod Worked
