@@ -8,7 +8,6 @@ pub mod Lists
 pub mod Tidy
 pub mod Outcome
 -- The worked cases, computed.
--- The worked cases, computed.
 pub mod Cases
 pub mod Borders
 -- What the definitions come to: laws.
