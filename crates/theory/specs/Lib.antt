@@ -9,3 +9,4 @@ pub mod Steps
 pub mod StepLaws
 pub mod Unwanted
 pub mod Walk
+pub mod Stack
