@@ -60,7 +60,7 @@ half-of : (c k : ℕ) → c / 2 ^ suc k ≡ c / 2 ^ k / 2
 half-of c k = let e : suc k ≡ k + 1 = omega arith in rw e (sym (shr-shr c k 1))
 
 -- places that hold nothing but at one child
-module _ (f : Place → List Entry) (data-none : (n v : ℕ) → n ≤ 4 → f (dataPlace n v) ≡ []) (c : ℕ) (others : (d : ℕ) → (c ≡ d → ⊥) → f (childPlace d) ≡ []) where
+module _ {B : Type 0} (f : Place → List B) (data-none : (n v : ℕ) → n ≤ 4 → f (dataPlace n v) ≡ []) (c : ℕ) (others : (d : ℕ) → (c ≡ d → ⊥) → f (childPlace d) ≡ []) where
   only-below : (k n v : ℕ) → n + k ≡ 5 → each f (placesAt k n v) ≡ (if eqb (c / 2 ^ k) v then f (childPlace c) else [])
   only-below zero n v r =
       append-nil (f (childPlace v))
@@ -92,10 +92,10 @@ module _ (f : Place → List Entry) (data-none : (n v : ℕ) → n ≤ 4 → f (
 
 module _ (w : List ℕ) (root : Prefix) (levels : ℕ) (o : Node) (p : Prefix) (wp : Whole p) (e : p .len + 5 * suc levels ≡ 65) (fits : root .len ≤ 64)
     (c : ℕ) (h : leads (deeper p 5 c) root ≡ true) where
-  short : p .len + 5 ≤ root .len
+  pub short : p .len + 5 ≤ root .len
   short = leads-len (deeper p 5 c) root h
 
-  no-data : (n v : ℕ) → n ≤ 4 → valueIn w root o n v (deeper p n v) ≡ Missing
+  pub no-data : (n v : ℕ) → n ≤ 4 → valueIn w root o n v (deeper p n v) ≡ Missing
   no-data n v l = go o
     where
       longer : leads root (deeper p n v) ≡ false
@@ -105,7 +105,7 @@ module _ (w : List ℕ) (root : Prefix) (levels : ℕ) (o : Node) (p : Prefix) (
       go Absent = refl
       go (At i) = rw (longer, and-false (bit (dataBit n v) (dataOf w i)))
 
-  no-child : (d : ℕ) → (c ≡ d → ⊥) → sideEntries w root levels (childIn w root o d (deeper p 5 d)) (deeper p 5 d) ≡ []
+  pub no-child : (d : ℕ) → (c ≡ d → ⊥) → sideEntries w root levels (childIn w root o d (deeper p 5 d)) (deeper p 5 d) ≡ []
   no-child d n = go o
     where
       -- two children of one node that lead one another are the same

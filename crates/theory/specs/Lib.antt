@@ -10,3 +10,5 @@ pub mod StepLaws
 pub mod Unwanted
 pub mod Walk
 pub mod Stack
+pub mod Start
+pub mod Align

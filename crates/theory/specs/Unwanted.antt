@@ -92,6 +92,14 @@ short-cover : (c : Option Entry) (n : ℕ) → n ≤ 65 → Shorter c n → has 
 short-cover none n l s h = not-both h refl
 short-cover (some e) n l s h = omega arith
 
+-- a list whose records are all of the left side's entries
+abbrev pub leftList : Operation → Bool
+leftList Intersection = true
+leftList Difference = true
+leftList CoveringDifference = true
+leftList Union = false
+leftList CoveringUnion = false
+
 module _ (j : Steps.Job) (lv : ℕ) (p : Prefix) (wp : Whole p) (e : p .len + 5 * suc lv ≡ 65) (l r : Node) (above : Covers)
     (sl : ShortCover (above .left) (p .len)) (sr : ShortCover (above .right) (p .len)) where
   abbrev heldL : Place → List Entry
@@ -151,6 +159,21 @@ module _ (j : Steps.Job) (lv : ℕ) (p : Prefix) (wp : Whole p) (e : p .len + 5 
 
   abbrev gives : Place → List Record
   gives x = picks (j .op) (placeRecords p heldL heldR (entryFor (above .left)) (entryFor (above .right)) x)
+
+  -- with nothing on the left there is nothing for a list of the left side
+  pub left-empty : (x : Place) → leftList (j .op) ≡ true → heldL x ≡ [] → gives x ≡ []
+  left-empty x h e = go (j .op) h
+    where
+      none-left : (op : Operation) → ((y : Prefix) (u : Option Entry) → own y (aboveL x) ≡ false → pick op (recordAt y (aboveL x) u) ≡ [])
+          → picks op (placeRecords p heldL heldR (entryFor (above .left)) (entryFor (above .right)) x) ≡ []
+      none-left op k = no-left (aboveL x) (aboveR x) (p .len + placeBits x) (shortL x) (shortR x) (heldL x) (heldR x) (long heldL fitsL x) (long heldR fitsR x) op k e
+
+      go : (op : Operation) → leftList op ≡ true → picks op (placeRecords p heldL heldR (entryFor (above .left)) (entryFor (above .right)) x) ≡ []
+      go Intersection q = none-left Intersection (λ y u o. rw o)
+      go Difference q = none-left Difference (λ y u o. rw o)
+      go CoveringDifference q = none-left CoveringDifference (λ y u o. rw o)
+      go Union q = not-both q refl
+      go CoveringUnion q = not-both q refl
 
   -- a place that is not wanted gives nothing
   pub unwanted : (x : Place) → InNode x → Steps.wanted j p l r above x ≡ false → gives x ≡ []

@@ -156,7 +156,7 @@ module _ (j : Steps.Job) (f : Level) (ok : LevelOk j f) where
       (subst (λ (c : Cover). Free (j .op) (Steps.isCover (Steps.nearer y (p .len + n) c))) (sym cr) (free (dataPlace n v) h)))
 
   -- a child place: the level below it
-  module _ (c : ℕ) (deep : p .len < 60) (h : Steps.wanted j p (f .left) (f .right) (f .above) (childPlace c) ≡ true) where
+  module _ (c : ℕ) (deep : p .len < 60) (fr : Free (j .op) (Steps.isCover (Steps.coverBits (j .right) (f .right) p (f .above .right) 5 c))) where
     abbrev q : Prefix
     q = deeper p 5 c
 
@@ -229,7 +229,7 @@ module _ (j : Steps.Job) (f : Level) (ok : LevelOk j f) where
         (aboveL 5 c) (aboveR 5 c) (entryFor (covers′ .left)) (entryFor (covers′ .right))
         (shorter-above (j .left) lv (f .left) p (f .above .left) (ok .short-left) 5 c) (shorter-above (j .right) lv (f .right) p (f .above .right) (ok .short-right) 5 c)
         (shorter-entry (covers′ .left) (q .len) (short-carried (j .op) .0)) (shorter-entry (covers′ .right) (q .len) (short-carried (j .op) .1))
-        (stands-left (j .op)) (stands-right (j .op) (free (childPlace c) h))
+        (stands-left (j .op)) (stands-right (j .op) fr)
         (all-imp (λ y k. leads-len q y k) (soundL .led-by)) (all-imp (λ y k. leads-len q y k) (soundR .led-by)))
 
     pub child-rest : Steps.placeList j f (childPlace c) ≡ Steps.levelRest j g
@@ -316,7 +316,7 @@ module _ (j : Steps.Job) (f : Level) (ok : LevelOk j f) where
   skip : (c : ℕ) → Steps.placeList j f (childPlace c) ≡ [] → Keeps (childPlace c) (step.Skip f)
   skip c e = record { gives = ap (_++ Steps.levelRest j f) (sym e); stays = (ok, refl); falls = omega arith }
 
-  down : (c : ℕ) (deep : f .prefix .len < 60) (h : Steps.wanted j (f .prefix) (f .left) (f .right) (f .above) (childPlace c) ≡ true)
+  down : (c : ℕ) (deep : f .prefix .len < 60) (h : Free (j .op) (Steps.isCover (Steps.coverBits (j .right) (f .right) (f .prefix) (f .above .right) 5 c)))
       → Keeps (childPlace c) (step.Down f (g j f ok c deep h))
   down c deep h =
       record {
@@ -339,9 +339,9 @@ module _ (j : Steps.Job) (f : Level) (ok : LevelOk j f) where
       choose : (l r : Node) → childIn (j .left .pool) (j .left .root) (f .left) c (deeper (f .prefix) 5 c) ≡ l
           → childIn (j .right .pool) (j .right .root) (f .right) c (deeper (f .prefix) 5 c) ≡ r → f .prefix .len < 60
           → Keeps (childPlace c) (Steps.downTo j f (deeper (f .prefix) 5 c) l r (Steps.carried (j .op) (Steps.coversAt j f 5 c)))
-      choose Absent Absent a b d = skip c (child-none j f ok c d h a b)
-      choose Absent (At m) a b d = rw (← a, ← b) (down c d h)
-      choose (At k) r a b d = rw (← a, ← b) (down c d h)
+      choose Absent Absent a b d = skip c (child-none j f ok c d (free j f ok (childPlace c) h) a b)
+      choose Absent (At m) a b d = rw (← a, ← b) (down c d (free j f ok (childPlace c) h))
+      choose (At k) r a b d = rw (← a, ← b) (down c d (free j f ok (childPlace c) h))
 
 -- what a step keeps: what there is to give, levels as they should be, and fewer steps to come
 pub record StepKeeps (j : Steps.Job) (f : Level) (s : Step) : Type 0 where
