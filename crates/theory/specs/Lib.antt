@@ -12,3 +12,4 @@ pub mod Walk
 pub mod Stack
 pub mod Start
 pub mod Align
+pub mod Loop

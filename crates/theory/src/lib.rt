@@ -1,4 +1,4 @@
-// The types of a walk over two tries. No code to speak of: the laws in specs/ say what such a walk gives, and code cites them.
+// The types of a walk over two tries. There is no code here: the laws in specs/ say what such a walk gives, and code cites them.
 use defs::Prefix;
 
 // The node of one side at a level of the walk, or none.
@@ -65,9 +65,4 @@ pub enum Step {
     Skip(Level),
     Record(Item, Level),
     Down(Level, Level),
-}
-
-// The levels of nodes that hold 64 bits, 5 to a level.
-pub fn levels() -> u32 {
-    13
 }
