@@ -1,0 +1,216 @@
+// One side of a walk at a node: its bitmaps, its values and children, the nearest entry above a place, and the way down to a root.
+ghost use mathlib.Core.Path.{_≡_};
+ghost use Prim.Native.Nat.{_/_, _%_, _^_, _≤_, _<_};
+ghost use Rattle.defs.specs.Pool.{nodeCount};
+ghost use Rattle.defs.specs.Entries.{places};
+ghost use Rattle.defs.specs.Tidy.{wordOf};
+ghost use Rattle.defs.specs.PrefixLaws.{Whole};
+ghost use Rattle.bits.specs.Places.{placeLen, placeValue};
+ghost use Rattle.theory.specs.Sides.{onPath, childIn, valueIn};
+ghost use Rattle.theory.specs.Steps.{placeBit, coverBits};
+ghost use Rattle.view.specs.Standing.{Sane, NodeIn, bitmapsOf, valueOn};
+ghost use Rattle.view.specs.Numbers.{numberOf, placeAt};
+ghost use Rattle.view.specs.Spreads.{aloneOf};
+ghost use Rattle.view.specs.Descent.{cutTo, downOf, nodeDown, foundOf};
+use defs::Prefix;
+use theory::Cover;
+use theory::Node;
+use theory::Value;
+
+// The data bitmap and the child bitmap of a node.
+pub struct Bitmaps {
+    pub data: u32,
+    pub child: u32,
+}
+
+// The number of the z-th place in prefix order.
+pub fn place_at(z: u32) -> u32
+    requires { ⌜ z < 63 ⌝ }
+    ensures { λ r. ⌜ r ≡ numberOf (placeAt z) ⌝ }
+{
+    let t =
+        b"\x01\x02\x04\x08\x10\x20\x21\x11\x22\x23\x09\x12\x24\x25\x13\x26\x27\x05\x0a\x14\x28\x29\x15\x2a\x2b\x0b\x16\x2c\x2d\x17\x2e\x2f\x03\x06\x0c\x18\x30\x31\x19\x32\x33\x0d\x1a\x34\x35\x1b\x36\x37\x07\x0e\x1c\x38\x39\x1d\x3a\x3b\x0f\x1e\x3c\x3d\x1f\x3e\x3f";
+    let at = z as usize;
+    t[at] as u32
+}
+
+// The two bitmaps of a side's node. Where there is none, no bit is set.
+pub fn bitmaps_at(words: &[u32], node: Node) -> Bitmaps
+    requires { ⌜ NodeIn (now words) node ⌝ }
+    ensures { λ r. ⌜ r ≡ bitmapsOf (now (words .entry)) node ⌝ }
+{
+    match node {
+        Node::Absent => Bitmaps { data: 0, child: 0 },
+        Node::At(i) => Bitmaps {
+            data: pool::data_bits(words, i as usize),
+            child: pool::child_bits(words, i as usize),
+        },
+    }
+}
+
+// Where the place of bit z of a node stands in prefix order.
+fn position(z: u32) -> u32
+    requires { ⌜ z < 63 ⌝ }
+    ensures { λ r. ⌜ (r < 63) × (2 ^ r ≡ aloneOf z) ⌝ }
+{
+    let t =
+        b"\x00\x01\x20\x02\x11\x21\x30\x03\x0a\x12\x19\x22\x29\x31\x38\x04\x07\x0b\x0e\x13\x16\x1a\x1d\x23\x26\x2a\x2d\x32\x35\x39\x3c\x05\x06\x08\x09\x0c\x0d\x0f\x10\x14\x15\x17\x18\x1b\x1c\x1e\x1f\x24\x25\x27\x28\x2b\x2c\x2e\x2f\x33\x34\x36\x37\x3a\x3b\x3d\x3e";
+    let at = z as usize;
+    t[at] as u32
+}
+
+// A node's bits in prefix order, one a place. Only bits that are set cost a turn; data bit 31 stands for no place.
+pub fn spread(b: Bitmaps) -> u64
+    ensures { λ r. ⌜ r ≡ wordOf (placeBit (b .data) (b .child)) places ⌝ }
+{
+    let mut left = ((b.child as u64) << 31) + ((b.data % 2147483648) as u64);
+    let mut word: u64 = 0;
+    while left > 0 {
+        let z = u64::trailing_zeros(left);
+        word += 1 << position(z);
+        left -= 1 << z;
+    }
+    word
+}
+
+// The value of data bit b of node i, where it is set and the root leads the place's prefix q.
+fn held_value(words: &[u32], root: Prefix, i: usize, b: u32, q: Prefix) -> Value
+    requires { ⌜ Sane (now words) × (i < nodeCount (now words)) × (b < 31) ⌝ }
+    ensures { λ r. ⌜ r ≡ valueOn (now (words .entry)) root i b q ⌝ }
+{
+    let held = pool::data_bits(words, i);
+    if !bits::bit(held, b) {
+        return Value::Missing;
+    }
+    if !bits::leads(root, q) {
+        return Value::Missing;
+    }
+    Value::Is(pool::first_value(words, i) + bits::rank(held, b))
+}
+
+// The value at place h of a side's node, of prefix q: values are counted by the data bits below the place's own.
+pub fn value_at(words: &[u32], root: Prefix, node: Node, h: u32, q: Prefix) -> Value
+    requires { ⌜ Sane (now words) × NodeIn (now words) node × (0 < h) × (h < 32) ⌝ }
+    ensures { λ r. ⌜ r ≡ valueIn (now (words .entry)) root node (placeLen h) (placeValue h) q ⌝ }
+{
+    match node {
+        Node::Absent => Value::Missing,
+        Node::At(i) => held_value(words, root, i as usize, h - 1, q),
+    }
+}
+
+// One of two prefixes leads the other.
+fn on_path(root: Prefix, q: Prefix) -> bool
+    ensures { λ r. ⌜ r ≡ onPath root q ⌝ }
+{
+    if bits::leads(root, q) {
+        return true;
+    }
+    bits::leads(q, root)
+}
+
+// Child c of node i, where its bit is set and its prefix q lies on one path with the root.
+fn held_child(words: &[u32], root: Prefix, i: usize, c: u32, q: Prefix) -> Node
+    requires { ⌜ Sane (now words) × (i < nodeCount (now words)) × (c < 32) ⌝ }
+    ensures { λ r. ⌜ r ≡ childIn (now (words .entry)) root (Node.At i) c q ⌝ }
+{
+    let held = pool::child_bits(words, i);
+    if !bits::bit(held, c) {
+        return Node::Absent;
+    }
+    if !on_path(root, q) {
+        return Node::Absent;
+    }
+    Node::At(pool::first_child(words, i) + bits::rank(held, c))
+}
+
+// Child c of a side's node, of prefix q. A child that cannot hold anything of the view is left out.
+pub fn child_at(words: &[u32], root: Prefix, node: Node, c: u32, q: Prefix) -> Node
+    requires { ⌜ Sane (now words) × NodeIn (now words) node × (c < 32) ⌝ }
+    ensures { λ r. ⌜ r ≡ childIn (now (words .entry)) root node c q ⌝ }
+{
+    match node {
+        Node::Absent => Node::Absent,
+        Node::At(i) => held_child(words, root, i as usize, c, q),
+    }
+}
+
+// The nearest entry of a side above place h of its node of prefix p, or else what stands above the node.
+pub fn cover_at(words: &[u32], root: Prefix, node: Node, p: Prefix, above: Cover, h: u32) -> Cover
+    requires { ⌜ Sane (now words) × NodeIn (now words) node × (0 < h) × (h < 64) × Whole p × (p .len ≤ 60) ⌝ }
+    ensures { λ r. ⌜ r ≡ coverBits (record { pool = now (words .entry); root = root }) node p above (placeLen h) (placeValue h) ⌝ }
+{
+    let mut up = h;
+    while 1 < up {
+        up = up / 2;
+        match value_at(words, root, node, up, bits::place_prefix(p, up)) {
+            Value::Missing => {}
+            Value::Is(value) => {
+                return Cover::Of {
+                    len: p.len + bits::place_len(up),
+                    value,
+                };
+            }
+        }
+    }
+    above
+}
+
+// The first bits of a prefix.
+fn shortened(p: Prefix, len: u32) -> Prefix
+    ensures { λ r. ⌜ r ≡ cutTo p len ⌝ }
+{
+    Prefix {
+        key: bits::first_bits(p.key, len),
+        len,
+    }
+}
+
+// The child on the way to the root, from the root's node at depth d: the root's next 5 bits are its place.
+fn next_down(words: &[u32], root: Prefix, node: Node, d: u32) -> Node
+    requires { ⌜ Sane (now words) × NodeIn (now words) node × (d ≤ 59) ⌝ }
+    ensures { λ r. ⌜ r ≡ downOf (now (words .entry)) root node d ⌝ }
+{
+    let c = ((root.key >> (59 - d)) % 32) as u32;
+    child_at(words, root, node, c, shortened(root, d + 5))
+}
+
+// The node on the way to the root at a depth, or none: one level down at a time.
+pub fn at_depth(words: &[u32], root: Prefix, depth: u32) -> Node
+    requires { ⌜ Sane (now words) × (depth % 5 ≡ 0) × (depth ≤ 60) ⌝ }
+    ensures { λ r. ⌜ r ≡ nodeDown (now (words .entry)) root (depth / 5) ⌝ }
+{
+    let mut node = Node::At(0);
+    let mut d: u32 = 0;
+    while d < depth {
+        node = next_down(words, root, node, d);
+        d += 5;
+    }
+    node
+}
+
+// The place of a root: its node, that node's prefix, and the root without stray bits.
+pub enum Found {
+    Nothing,
+    At {
+        node: u32,
+        prefix: Prefix,
+        root: Prefix,
+    },
+}
+
+// The place of a root, at depth len / 5 * 5; a root of length 64 lies in a node at depth 60.
+pub fn find(words: &[u32], root: Prefix) -> Found
+    requires { ⌜ Sane (now words) × (root .len ≤ 64) ⌝ }
+    ensures { λ r. ⌜ r ≡ foundOf (now (words .entry)) root ⌝ }
+{
+    let depth = root.len / 5 * 5;
+    match at_depth(words, root, depth) {
+        Node::Absent => Found::Nothing,
+        Node::At(i) => Found::At {
+            node: i,
+            prefix: shortened(root, depth),
+            root: shortened(root, root.len),
+        },
+    }
+}
