@@ -1,10 +1,11 @@
 -- The way down to a root: one level at a time, by the root's next 5 bits. The view at the root lies in the node that is reached.
 use mathlib.Core.Path.{_≡_, refl, sym, ap, ap₂, _∙_, subst}
-use mathlib.Core.Bool.{Bool, true, false}
-use mathlib.Core.List.{List, []}
+use mathlib.Core.Bool.{Bool, true, false, _&&_}
+use mathlib.Core.List.{List, [], _∷_}
 use Prim.Native.Nat.{ℕ, zero, suc, _+_, _-_, _*_, _/_, _%_, _^_, _≤_, _<_}
 use native.Mathlib.Omega.{arith}
 use native.Mathlib.Nat.{div-add-mod', div-eq-of-lt, mul-assoc, add-mul, mod-lt}
+use lib.Dec.{leb, eqb}
 use lib.Pow.{pow-pos, pow-add, shl-shr, shr-shr}
 use Rattle.defs.specs.declared.Prefix.{Prefix}
 use Rattle.defs.specs.Prefix.{first, leads, deeper, top}
@@ -136,3 +137,28 @@ next-bits key d l = let e : 59 - d ≡ 64 - (d + 5) = omega arith in ap (λ (x :
 -- the node of a root's place, as the code finds it
 pub found-node : (w : List ℕ) (root : Prefix) (r : Node) → r ≡ nodeDown w root (root .len / 5 * 5 / 5) → r ≡ nodeDown w root (root .len / 5)
 found-node w root r e = let k : root .len / 5 * 5 / 5 ≡ root .len / 5 = omega arith in e ∙ ap (nodeDown w root) k
+
+-- ---- what a root's place says
+
+-- a root leads what it leads without its stray bits
+pub leads-clean : (root q : Prefix) → leads (cutTo root (root .len)) q ≡ leads root q
+unfolding leads cut
+leads-clean root q =
+    ap (λ (x : ℕ). leb (root .len) (q .len) && eqb (first (root .len) (q .key)) x) (shl-shr (first (root .len) (root .key)) (64 - root .len))
+
+under-clean : (root : Prefix) (a : List Entry) → under (cutTo root (root .len)) a ≡ under root a
+under-clean root [] = refl
+under-clean root (e ∷ a) = rw (leads-clean root (e .at), under-clean root a)
+
+-- FOR CALLERS: the view at a root is what lies under its place
+pub view-found : (w : List ℕ) (root : Prefix) → root .key < 2 ^ 64 → root .len ≤ 64 → view w root ≡ foundEntries w (foundOf w root)
+view-found w root fits long =
+    view-down w root fits long (root .len / 5) (13 - root .len / 5) (omega arith) (omega arith)
+    ∙ go (nodeDown w root (root .len / 5)) (omega arith)
+  where
+    go : (o : Node) → 5 * (root .len / 5) ≡ root .len / 5 * 5
+        → sideEntries w root (13 - root .len / 5) o (cutTo root (5 * (root .len / 5))) ≡ foundEntries w (foundAt root o)
+    go node.Absent e = refl
+    go (node.At i) e =
+        let f : root .len / 5 * 5 / 5 ≡ root .len / 5 = omega arith in
+        rw (e, f) (sym (under-clean root (entriesAt w (13 - root .len / 5) i (cutTo root (root .len / 5 * 5)))))

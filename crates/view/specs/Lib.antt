@@ -7,3 +7,6 @@ pub mod Spreads
 pub mod Climb
 -- The way down to a root.
 pub mod Descent
+-- What entries cover.
+pub mod Covered
+pub mod Kept

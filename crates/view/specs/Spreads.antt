@@ -41,7 +41,7 @@ abbrev pub aloneOf : ℕ → ℕ
 aloneOf z = wordOf (λ x. eqb (codeOf x) z) places
 
 -- a test as a number
-abbrev one : Bool → ℕ
+abbrev pub one : Bool → ℕ
 one b = if b then 1 else 0
 
 -- ---- words of tests
@@ -60,13 +60,13 @@ module _ {A : Type 0} where
 half : (m b : ℕ) → b < 2 → (m * 2 + b) / 2 ≡ m
 half m b h = omega arith
 
-bit-first : (m b : ℕ) → b < 2 → bit 0 (m * 2 + b) ≡ eqb b 1
+pub bit-first : (m b : ℕ) → b < 2 → bit 0 (m * 2 + b) ≡ eqb b 1
 bit-first m b h = let e : (m * 2 + b) % 2 ≡ b = omega arith in bit-zero (m * 2 + b) ∙ ap (λ (y : ℕ). eqb y 1) e
 
-bit-later : (m b c : ℕ) → b < 2 → bit (suc c) (m * 2 + b) ≡ bit c m
+pub bit-later : (m b c : ℕ) → b < 2 → bit (suc c) (m * 2 + b) ≡ bit c m
 bit-later m b c h = bit-suc c (m * 2 + b) ∙ ap (bit c) (half m b h)
 
-eqb-suc : (a b : ℕ) → eqb (suc a) (suc b) ≡ eqb a b
+pub eqb-suc : (a b : ℕ) → eqb (suc a) (suc b) ≡ eqb a b
 eqb-suc a b =
     split (eqb a b) (λ e. eq-eqb (suc a) (suc b) (ap suc (eqb-true a b e)) ∙ sym e)
     (λ e. ne-eqb (suc a) (suc b) (λ i. eqb-false a b e (omega arith)) ∙ sym e)
@@ -82,7 +82,7 @@ zeros-even k m =
     rw (mul-add-mod-self-right m 2 0, trailingZeros, v)
 
 -- every bit but the lowest is still there without the lowest
-abbrev Low : ℕ → ℕ → ℕ → Type 0
+abbrev pub Low : ℕ → ℕ → ℕ → Type 0
 Low z t c = one (bit c t) ≡ one (eqb c z) + one (bit c (t - 2 ^ z))
 
 low-odd : (m c : ℕ) → Low 0 (m * 2 + 1) c
@@ -102,11 +102,12 @@ low-even z m (suc c) b h =
     rw (e, bit-later m 0 c (omega arith), bit-later (m - 2 ^ z) 0 c (omega arith), eqb-suc c z) (h c)
 
 -- the lowest one of a number below 2 ^ k
-record Lowly (k t : ℕ) : Type 0 where
-  part : 2 ^ trailingZeros k t ≤ t
-  apart : (c : ℕ) → Low (trailingZeros k t) t c
+pub record Lowly (k t : ℕ) : Type 0 where
+  pub inside : trailingZeros k t < k
+  pub part : 2 ^ trailingZeros k t ≤ t
+  pub apart : (c : ℕ) → Low (trailingZeros k t) t c
 
-lowly : (k t : ℕ) → 0 < t → t < 2 ^ k → Lowly k t
+pub lowly : (k t : ℕ) → 0 < t → t < 2 ^ k → Lowly k t
 lowly zero t h b = absurd (omega arith)
 lowly (suc k) t h b =
     let s : t / 2 * 2 + t % 2 ≡ t = div-add-mod' t 2 in
@@ -118,11 +119,12 @@ lowly (suc k) t h b =
     rw e (even k (t / 2) (lowly k (t / 2) (omega arith) (omega arith))))
   where
     odd : (k m : ℕ) → Lowly (suc k) (m * 2 + 1)
-    odd k m = record { part = rw (zeros-odd k m) (omega arith); apart = λ c. rw (zeros-odd k m) (low-odd m c) }
+    odd k m = record { inside = rw (zeros-odd k m) (omega arith); part = rw (zeros-odd k m) (omega arith); apart = λ c. rw (zeros-odd k m) (low-odd m c) }
 
     even : (k m : ℕ) → Lowly k m → Lowly (suc k) (m * 2 + 0)
     even k m r =
         record {
+          inside = let p = r .inside in rw (zeros-even k m) (omega arith);
           part = let p = r .part in rw (zeros-even k m) (omega arith);
           apart = λ c. rw (zeros-even k m) (low-even (trailingZeros k m) m c (r .part) (r .apart));
         }

@@ -1,6 +1,9 @@
 // One side of a walk at a node: its bitmaps, its values and children, the nearest entry above a place, and the way down to a root.
 ghost use mathlib.Core.Path.{_≡_};
-ghost use Prim.Native.Nat.{_/_, _%_, _^_, _≤_, _<_};
+ghost use mathlib.Core.Bool.{true, false};
+ghost use Prim.Native.Nat.{_+_, _*_, _/_, _%_, _^_, _≤_, _<_};
+ghost use lib.ListN.{length};
+ghost use Rattle.defs.specs.Basics.{upTo};
 ghost use Rattle.defs.specs.Pool.{nodeCount};
 ghost use Rattle.defs.specs.Entries.{places};
 ghost use Rattle.defs.specs.Tidy.{wordOf};
@@ -10,8 +13,10 @@ ghost use Rattle.theory.specs.Sides.{onPath, childIn, valueIn};
 ghost use Rattle.theory.specs.Steps.{placeBit, coverBits};
 ghost use Rattle.view.specs.Standing.{Sane, NodeIn, bitmapsOf, valueOn};
 ghost use Rattle.view.specs.Numbers.{numberOf, placeAt};
-ghost use Rattle.view.specs.Spreads.{aloneOf};
+ghost use Rattle.view.specs.Spreads.{one, aloneOf};
 ghost use Rattle.view.specs.Descent.{cutTo, downOf, nodeDown, foundOf};
+ghost use Rattle.view.specs.Covered.{wordsOf, coverageOf, joinOf, bytesAt};
+ghost use Rattle.view.specs.Kept.{keptBit, keptOf};
 use defs::Prefix;
 use theory::Cover;
 use theory::Node;
@@ -212,5 +217,142 @@ pub fn find(words: &[u32], root: Prefix) -> Found
             prefix: shortened(root, depth),
             root: shortened(root, root.len),
         },
+    }
+}
+
+// A byte as a word.
+fn wide(x: u8) -> u32
+    ensures { λ r. ⌜ (r ≡ x) × (r < 256) ⌝ }
+{
+    x as u32
+}
+
+// The word of four bytes, lowest first.
+fn word_at(t: &[u8], at: usize) -> u32
+    requires { ⌜ at + 4 ≤ length (now t) ⌝ }
+    ensures { λ r. ⌜ r ≡ bytesAt (now (t .entry)) at ⌝ }
+{
+    wide(t[at]) + 256 * wide(t[at + 1]) + 65536 * wide(t[at + 2]) + 16777216 * wide(t[at + 3])
+}
+
+// The places of a node that entries cover.
+pub struct Coverage {
+    pub data: u32,
+    pub child: u32,
+}
+
+impl Coverage {
+    pub const NOTHING: Coverage = Coverage { data: 0, child: 0 };
+
+    pub const ALL: Coverage = Coverage {
+        data: 2147483647,
+        child: 4294967295,
+    };
+
+    // No place is covered.
+    pub fn nothing() -> Coverage
+        ensures { λ r. ⌜ r ≡ wordsOf (λ _. false) ⌝ }
+    {
+        Coverage::NOTHING
+    }
+
+    // Every place is covered.
+    pub fn all() -> Coverage
+        ensures { λ r. ⌜ r ≡ wordsOf (λ _. true) ⌝ }
+    {
+        Coverage::ALL
+    }
+
+    // What one or the other covers.
+    fn with(self, other: Coverage) -> Coverage
+        ensures { λ r. ⌜ r ≡ joinOf self other ⌝ }
+    {
+        Coverage {
+            data: self.data | other.data,
+            child: self.child | other.child,
+        }
+    }
+
+    // What the entry of data bit z covers: its own place and all below it. Bit 31 stands for no place.
+    fn of_bit(z: u32) -> Coverage
+        requires { ⌜ z < 32 ⌝ }
+        ensures { λ r. ⌜ r ≡ coverageOf (2 ^ z) ⌝ }
+    {
+        let held =
+            b"\xff\xff\xff\x7f\x9a\x87\x7f\x00\x64\x78\x80\x7f\x88\x81\x07\x00\x10\x06\x78\x00\x20\x18\x80\x07\x40\x60\x00\x78\x80\x80\x01\x00\x00\x01\x06\x00\x00\x02\x18\x00\x00\x04\x60\x00\x00\x08\x80\x01\x00\x10\x00\x06\x00\x20\x00\x18\x00\x40\x00\x60\x00\x80\x00\x00\x00\x00\x01\x00\x00\x00\x02\x00\x00\x00\x04\x00\x00\x00\x08\x00\x00\x00\x10\x00\x00\x00\x20\x00\x00\x00\x40\x00\x00\x00\x80\x00\x00\x00\x00\x01\x00\x00\x00\x02\x00\x00\x00\x04\x00\x00\x00\x08\x00\x00\x00\x10\x00\x00\x00\x20\x00\x00\x00\x40\x00\x00\x00\x00";
+        let kids =
+            b"\xff\xff\xff\xff\xff\xff\x00\x00\x00\x00\xff\xff\xff\x00\x00\x00\x00\xff\x00\x00\x00\x00\xff\x00\x00\x00\x00\xff\x0f\x00\x00\x00\xf0\x00\x00\x00\x00\x0f\x00\x00\x00\xf0\x00\x00\x00\x00\x0f\x00\x00\x00\xf0\x00\x00\x00\x00\x0f\x00\x00\x00\xf0\x03\x00\x00\x00\x0c\x00\x00\x00\x30\x00\x00\x00\xc0\x00\x00\x00\x00\x03\x00\x00\x00\x0c\x00\x00\x00\x30\x00\x00\x00\xc0\x00\x00\x00\x00\x03\x00\x00\x00\x0c\x00\x00\x00\x30\x00\x00\x00\xc0\x00\x00\x00\x00\x03\x00\x00\x00\x0c\x00\x00\x00\x30\x00\x00\x00\xc0\x00\x00\x00\x00";
+        let at = 4 * (z as usize);
+        Coverage {
+            data: word_at(held, at),
+            child: word_at(kids, at),
+        }
+    }
+
+    // What the entries of a data bitmap cover, entry by entry.
+    pub fn from_data(entries: u32) -> Coverage
+        ensures { λ r. ⌜ r ≡ coverageOf entries ⌝ }
+    {
+        let mut left = entries;
+        let mut covered = Coverage::NOTHING;
+        while left > 0 {
+            let z = u32::trailing_zeros(left);
+            covered = covered.with(Coverage::of_bit(z));
+            left -= 1 << z;
+        }
+        covered
+    }
+}
+
+// Data bit b of a node of prefix p is set, and the root leads its place.
+fn keeps(held: u32, root: Prefix, p: Prefix, b: u32) -> bool
+    requires { ⌜ (b < 31) × Whole p × (p .len ≤ 60) ⌝ }
+    ensures { λ r. ⌜ r ≡ keptBit held root p b ⌝ }
+{
+    if !bits::bit(held, b) {
+        return false;
+    }
+    bits::leads(root, bits::place_prefix(p, b + 1))
+}
+
+// A word with bit b set where that is wanted.
+fn with_bit(word: u32, b: u32, on: bool) -> u32
+    requires { ⌜ (b < 32) × (word < 2 ^ b) ⌝ }
+    ensures { λ r. ⌜ r ≡ word + one on * 2 ^ b ⌝ }
+{
+    if on {
+        return word + (1 << b);
+    }
+    word
+}
+
+// The set data bits of a node of prefix p whose places the root leads, place by place.
+fn kept_places(held: u32, root: Prefix, p: Prefix) -> u32
+    requires { ⌜ Whole p × (p .len ≤ 60) ⌝ }
+    ensures { λ r. ⌜ r ≡ wordOf (keptBit held root p) (upTo 31) ⌝ }
+{
+    let mut kept: u32 = 0;
+    let mut b: u32 = 0;
+    while b < 31 {
+        kept = with_bit(kept, b, keeps(held, root, p, b));
+        b += 1;
+    }
+    kept
+}
+
+// The data bitmap of a side's node of prefix p, as far as the root leads: all of it below the root, and place by place in the root's own node.
+pub fn kept_data(words: &[u32], root: Prefix, node: Node, p: Prefix) -> u32
+    requires { ⌜ Sane (now words) × NodeIn (now words) node × Whole p × (p .len ≤ 60) ⌝ }
+    ensures { λ r. ⌜ r ≡ keptOf (now (words .entry)) root node p ⌝ }
+{
+    match node {
+        Node::Absent => 0,
+        Node::At(i) => {
+            let held = pool::data_bits(words, i as usize);
+            if bits::leads(root, p) {
+                return held;
+            }
+            kept_places(held, root, p)
+        }
     }
 }
