@@ -1,0 +1,12 @@
+-- What the walk's functions ask for.
+pub mod Ready
+-- Which places a list visits.
+pub mod BitLaws
+pub mod Wanted
+pub mod Maps
+-- What the walk's functions work out.
+pub mod Moves
+-- How the right view of a covering difference is aligned.
+pub mod Aligned
+-- A count of records fits.
+pub mod Bound

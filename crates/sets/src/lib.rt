@@ -1,0 +1,22 @@
+// The five lists over two views. One walk serves them all; each list's own rules are in the file of its name.
+pub mod covering_difference;
+pub mod covering_union;
+pub mod difference;
+pub mod intersection;
+pub mod union;
+mod walk;
+
+use defs::Prefix;
+
+// The two roots of a call.
+pub struct Roots {
+    pub left: Prefix,
+    pub right: Prefix,
+}
+
+// What aligning the right view finds on the way to the left root.
+pub enum Aligned {
+    Covered,
+    Missing,
+    At(u32),
+}
