@@ -6,6 +6,7 @@ pub mod Wanted
 pub mod Maps
 -- What the walk's functions work out.
 pub mod Moves
+pub mod Loops
 -- How the right view of a covering difference is aligned.
 pub mod Aligned
 -- A count of records fits.

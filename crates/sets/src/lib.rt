@@ -3,6 +3,7 @@ pub mod covering_difference;
 pub mod covering_union;
 pub mod difference;
 pub mod intersection;
+mod record;
 pub mod union;
 mod walk;
 

@@ -11,10 +11,12 @@ ghost use Rattle.theory.specs.Loop.{recordsWords};
 ghost use Rattle.bits.specs.Places.{placeLen, placeValue};
 ghost use Rattle.sets.specs.Ready.{jobOf, Entering, Passing, Ready};
 ghost use Rattle.sets.specs.Maps.{mapsOf};
+ghost use Rattle.sets.specs.Loops.{writtenOver};
 use crate::Roots;
 use crate::covering_difference;
 use crate::difference;
 use crate::intersection;
+use crate::record;
 use crate::union;
 use defs::Operation;
 use defs::Prefix;
@@ -212,5 +214,78 @@ pub(crate) fn step(op: Operation, l: &[u32], r: &[u32], roots: Roots, top: Level
         data_step(op, l, r, roots, f, h)
     } else {
         child_step(op, l, r, roots, f, h)
+    }
+}
+
+// How many records there are: the walk without writing.
+pub(crate) fn count(op: Operation, l: &[u32], r: &[u32], roots: Roots, start: Level) -> u64
+    requires { ⌜ Ready (jobOf op (now l) (now r) roots) start ⌝ }
+    requires { ⌜ length (levelRest (jobOf op (now l) (now r) roots) start) < 2 ^ 64 ⌝ }
+    ensures { λ n. ⌜ n ≡ length (levelRest (jobOf op (now (l .entry)) (now (r .entry)) roots) start) ⌝ }
+{
+    let mut stack = [start; 13];
+    let mut n: usize = 1;
+    let mut count: u64 = 0;
+    while 0 < n {
+        let k = n - 1;
+        let top = stack[k];
+        match step(op, l, r, roots, top) {
+            Step::Up => {
+                n = k;
+            }
+            Step::Skip(f) => {
+                stack[k] = f;
+            }
+            Step::Record(i, f) => {
+                stack[k] = f;
+                count += 1;
+            }
+            Step::Down(f, g) => {
+                stack[k] = f;
+                stack[n] = g;
+                n += 1;
+            }
+        }
+    }
+    count
+}
+
+// The records, each into the part of the output that starts after those already written.
+pub(crate) fn write(
+    op: Operation,
+    l: &[u32],
+    r: &[u32],
+    roots: Roots,
+    start: Level,
+    out: &mut [u64],
+)
+    requires { ⌜ Ready (jobOf op (now l) (now r) roots) start ⌝ }
+    requires { ⌜ recordWords * length (levelRest (jobOf op (now l) (now r) roots) start) ≤ length (now out) ⌝ }
+    ensures { λ _. ⌜ now (out .exit) ≡ writtenOver (levelRest (jobOf op (now (l .entry)) (now (r .entry)) roots) start) (now (out .entry)) ⌝ }
+{
+    let mut stack = [start; 13];
+    let mut n: usize = 1;
+    let mut at: usize = 0;
+    while 0 < n {
+        let k = n - 1;
+        let top = stack[k];
+        match step(op, l, r, roots, top) {
+            Step::Up => {
+                n = k;
+            }
+            Step::Skip(f) => {
+                stack[k] = f;
+            }
+            Step::Record(i, f) => {
+                stack[k] = f;
+                record::put(&mut out[at..], i);
+                at += defs::record_words();
+            }
+            Step::Down(f, g) => {
+                stack[k] = f;
+                stack[n] = g;
+                n += 1;
+            }
+        }
     }
 }

@@ -158,14 +158,16 @@ downTo j f q Absent Absent above = step.Skip f
 downTo j f q Absent (At b) above = step.Down f (enter j q Absent (At b) above)
 downTo j f q (At a) r above = step.Down f (enter j q (At a) r above)
 
--- what a place comes to; f is the level without it
-abbrev pub stepAt : Job → Level → Place → Step
-stepAt j f (dataPlace n v) =
+-- what the data place of n bits of value v of a level gives
+abbrev pub emitAt : Job → Level → ℕ → ℕ → Emit
+emitAt j f n v =
     let q = deeper (f .prefix) n v in
     let c = coversAt j f n v in
-    given
-    (emitOf (j .op) q (valueIn (j .left .pool) (j .left .root) (f .left) n v q) (valueIn (j .right .pool) (j .right .root) (f .right) n v q) (c .left) (c .right))
-    f
+    emitOf (j .op) q (valueIn (j .left .pool) (j .left .root) (f .left) n v q) (valueIn (j .right .pool) (j .right .root) (f .right) n v q) (c .left) (c .right)
+
+-- what a place comes to; f is the level without it
+abbrev pub stepAt : Job → Level → Place → Step
+stepAt j f (dataPlace n v) = given (emitAt j f n v) f
 stepAt j f (childPlace k) =
     let q = deeper (f .prefix) 5 k in
     if leb 60 (f .prefix .len) then step.Skip f
