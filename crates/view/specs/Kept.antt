@@ -116,7 +116,7 @@ one-bit (suc zero) h = refl
 one-bit (suc (suc r)) h = absurd (omega arith)
 
 -- the word of a number's own bits
-bits-back : (t n : ℕ) → wordOf (λ b. bit b t) (upTo n) ≡ t % 2 ^ n
+pub bits-back : (t n : ℕ) → wordOf (λ b. bit b t) (upTo n) ≡ t % 2 ^ n
 bits-back t zero = let e : t % 1 ≡ 0 = omega arith in sym e
 bits-back t (suc n) =
     let e : 1 + n ≡ suc n = omega arith in

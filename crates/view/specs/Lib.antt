@@ -10,3 +10,5 @@ pub mod Descent
 -- What entries cover.
 pub mod Covered
 pub mod Kept
+-- What is empty.
+pub mod Emptiness

@@ -37,7 +37,7 @@ numbered (dataPlace n v) i =
 numbered (childPlace c) i =
     record { some = omega arith; below = omega arith; is-data = λ l. absurd (omega arith); is-child = λ l. ap childPlace (omega arith) }
 
-all-at : {A : Type 0} {P : A → Type 0} {l : List A} → All P l → (d : A) (z : ℕ) → z < length l → P (getD l z d)
+pub all-at : {A : Type 0} {P : A → Type 0} {l : List A} → All P l → (d : A) (z : ℕ) → z < length l → P (getD l z d)
 all-at nil d z h = absurd (not-suc-le-zero h)
 all-at (more k ks) d zero h = k
 all-at (more k ks) d (suc z) h = all-at ks d z (le-of-suc-le-suc h)

@@ -17,6 +17,7 @@ ghost use Rattle.view.specs.Spreads.{one, aloneOf};
 ghost use Rattle.view.specs.Descent.{cutTo, downOf, nodeDown, foundOf};
 ghost use Rattle.view.specs.Covered.{wordsOf, coverageOf, joinOf, bytesAt};
 ghost use Rattle.view.specs.Kept.{keptBit, keptOf};
+ghost use Rattle.view.specs.Emptiness.{emptyAt};
 use defs::Prefix;
 use theory::Cover;
 use theory::Node;
@@ -355,4 +356,27 @@ pub fn kept_data(words: &[u32], root: Prefix, node: Node, p: Prefix) -> u32
             kept_places(held, root, p)
         }
     }
+}
+
+// Nothing lies in a node or below it, so many levels deep: it has no value, and each of its children is asked the same with one level less.
+pub fn is_empty(words: &[u32], node: u32, levels: u32) -> bool
+    requires { ⌜ Sane (now words) × (node < nodeCount (now words)) ⌝ }
+    ensures { λ r. ⌜ r ≡ emptyAt (now (words .entry)) levels node ⌝ }
+{
+    if levels == 0 {
+        return true;
+    }
+    if pool::data_bits(words, node as usize) != 0 {
+        return false;
+    }
+    let first = pool::first_child(words, node as usize);
+    let count = bits::ones(pool::child_bits(words, node as usize));
+    let mut j: u32 = 0;
+    while j < count {
+        if !is_empty(words, first + j, levels - 1) {
+            return false;
+        }
+        j += 1;
+    }
+    true
 }
