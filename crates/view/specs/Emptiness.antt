@@ -26,7 +26,8 @@ use Rattle.theory.specs.Unwanted.{InNode, places-in-node}
 use Rattle.view.specs.Standing.{Sane, nodes-few, child-inside}
 use Rattle.view.specs.Numbers.{numberOf, placeAt, place-inside, numbered, all-at}
 use Rattle.view.specs.Spreads.{codeOf, positions, position-right, belowAll, below-at, word-on}
-use Rattle.view.specs.Kept.{up-below, bits-back}
+use Rattle.view.specs.Covered.{up-below}
+use Rattle.view.specs.Kept.{bits-back}
 use Rattle.theory.specs.Walk.{places-length}
 
 module _ {A : Type 0} where
@@ -43,12 +44,12 @@ emptyAt w (suc levels) node =
 
 -- ---- tests
 
-iff : (a b : Bool) → (a ≡ true → b ≡ true) → (b ≡ true → a ≡ true) → a ≡ b
+pub iff : (a b : Bool) → (a ≡ true → b ≡ true) → (b ≡ true → a ≡ true) → a ≡ b
 iff true b f g = sym (f refl)
 iff false true f g = g refl
 iff false false f g = refl
 
-both-true : {a b : Bool} → a ≡ true → b ≡ true → (a && b) ≡ true
+pub both-true : {a b : Bool} → a ≡ true → b ≡ true → (a && b) ≡ true
 both-true e f = rw (e, f)
 
 nil-append : {B : Type 0} (a b : List B) → isNil (a ++ b) ≡ (isNil a && isNil b)
@@ -61,15 +62,15 @@ module _ {A B : Type 0} where
   nil-each f (x ∷ l) = nil-append (f x) (each f l) ∙ ap (isNil (f x) &&_) (nil-each f l)
 
 module _ {A : Type 0} (g : A → Bool) where
-  every-all : (l : List A) → every g l ≡ true → All (λ x. g x ≡ true) l
+  pub every-all : (l : List A) → every g l ≡ true → All (λ x. g x ≡ true) l
   every-all [] e = nil
   every-all (x ∷ l) e = more (and-left (g x) (every g l) e) (every-all l (and-right (g x) (every g l) e))
 
-  all-every : {l : List A} → All (λ x. g x ≡ true) l → every g l ≡ true
+  pub all-every : {l : List A} → All (λ x. g x ≡ true) l → every g l ≡ true
   all-every nil = refl
   all-every (more h hs) = both-true h (all-every hs)
 
-below-of : (f : ℕ → Bool) (n : ℕ) → ((j : ℕ) → j < n → f j ≡ true) → belowAll f n ≡ true
+pub below-of : (f : ℕ → Bool) (n : ℕ) → ((j : ℕ) → j < n → f j ≡ true) → belowAll f n ≡ true
 below-of f zero h = refl
 below-of f (suc n) h = both-true (h n (omega arith)) (below-of f n (λ j l. h j (omega arith)))
 
@@ -190,7 +191,7 @@ pub record Reading (w : List ℕ) (levels node held first count : ℕ) : Type 0 
   pub first-is : first ≡ firstChild w node
   pub count-is : count ≡ ones (childOf w node)
 
-below-fails : (f : ℕ → Bool) (n j : ℕ) → j < n → f j ≡ false → belowAll f n ≡ false
+pub below-fails : (f : ℕ → Bool) (n j : ℕ) → j < n → f j ≡ false → belowAll f n ≡ false
 below-fails f n j l e = split (belowAll f n) (λ t. not-both (below-at f n t j l) e) (λ t. t)
 
 one-level : (w : List ℕ) (levels node : ℕ) → (levels ≡ 0 → ⊥)

@@ -35,7 +35,7 @@ use Rattle.theory.specs.Todo.{word-lt}
 use Rattle.theory.specs.Unwanted.{InNode}
 use Rattle.view.specs.Standing.{Sane}
 use Rattle.view.specs.Spreads.{one, word-on}
-use Rattle.view.specs.Covered.{coveredBits, coveredBy, dataAt, wordsOf, coverageOf, words-bit, coverage-bit, length-up}
+use Rattle.view.specs.Covered.{coveredBits, coveredBy, dataAt, wordsOf, coverageOf, words-bit, coverage-bit, length-up, up-below}
 
 abbrev pub isValue : Value → Bool
 isValue Missing = false
@@ -88,10 +88,6 @@ module _ (s : Side) (o : Node) (p : Prefix) where
   coverage-covers x h = coverage-bit kept x h ∙ sym (kept-covers x h)
 
 -- ---- how it is worked out
-
-pub up-below : (n : ℕ) → All (λ b. b < n) (upTo n)
-up-below zero = nil
-up-below (suc n) = all-append (all-imp (λ b h. omega arith) (up-below n)) (more (omega arith) nil)
 
 word-snoc : (f : ℕ → Bool) (a : List ℕ) (x : ℕ) → wordOf f (a ++ (x ∷ [])) ≡ wordOf f a + one (f x) * 2 ^ length a
 word-snoc f [] x = omega arith

@@ -12,3 +12,4 @@ pub mod Covered
 pub mod Kept
 -- What is empty.
 pub mod Emptiness
+pub mod EmptyViews

@@ -164,7 +164,7 @@ is-empty-sub-is-empty : (t : ℕ) → is-empty-lts.Need-sub-is-empty (
   is-empty-below t,
   is-empty.Post,
 ) (is-empty-at t) is-empty.Post is-empty-Inv-loop is-empty-μ-loop
-is-empty-sub-is-empty t c = at-least (c .before .before .before .before .before .before .before .if1 .left)
+is-empty-sub-is-empty t c = omega (arith, at-least (c .before .before .before .before .before .before .before .if1 .left))
 
 is-empty-is-empty-requires : (t : ℕ) → is-empty-lts.Need-is-empty-requires (
   data-bits-reads.Asked,
