@@ -1,3 +1,4 @@
+-- `view::is_empty` meets its contract. The measure of the calls is the levels left; at each turn the first j children are empty.
 use mathlib.Core.Path.{_≡_, refl, sym, ap, _∙_, subst}
 use mathlib.Core.Bool.{true}
 use native.Mathlib.Omega.{arith}

@@ -1,3 +1,4 @@
+-- `view::child_at` meets its contract. By the cases of the node.
 use mathlib.Core.Path.{_≡_, refl, sym, ap, ap₂, _∙_}
 use Rattle.view.specs.Standing.{in-at}
 use Rattle.theory.specs.Sides.{childIn}

@@ -1,3 +1,4 @@
+-- `view::cover_at` meets its contract. At each turn nothing between the place and `up` has a value; the measure is `up`.
 use native.Mathlib.Omega.{arith}
 use mathlib.Core.Path.{_≡_, refl, sym, ap, ap₂, _∙_}
 use borrow.Author.Needs.{needs}

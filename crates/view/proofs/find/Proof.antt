@@ -1,3 +1,4 @@
+-- `view::find` meets its contract. By the cases of the node on the way.
 use Rattle.view.specs.Descent.{foundAt, found-node}
 use mathlib.Core.Path.{_≡_, refl, sym, ap, ap₂, _∙_}
 use borrow.Author.Needs.{needs}

@@ -1,3 +1,4 @@
+-- `view::keeps` meets its contract. By the test of the bit.
 use native.Mathlib.Omega.{arith}
 use mathlib.Core.Path.{_≡_, refl, sym, ap, ap₂, _∙_}
 use borrow.Author.Tests.{not-true, not-false}

@@ -1,3 +1,4 @@
+-- `view::place_is_empty` meets its contract. At each turn the first c children hold nothing; the measure is the children left.
 use native.Mathlib.Omega.{arith}
 use mathlib.Core.Path.{_≡_, refl, sym, ap, ap₂, _∙_}
 use Prim.Native.Nat.{_-_}

@@ -1,3 +1,4 @@
+-- `view::shortened` meets its contract. From what the first bits are.
 use mathlib.Core.Path.{_≡_, refl, sym, ap, ap₂, _∙_}
 use Rattle.defs.specs.PrefixLaws.{prefix-eq}
 use borrow.Author.Needs.{needs}

@@ -1,3 +1,4 @@
+-- `view::view_is_empty` meets its contract. By the cases of the root's place.
 use native.Mathlib.Omega.{arith}
 use mathlib.Core.Path.{_≡_, refl, sym, ap, ap₂, _∙_}
 use Rattle.view.specs.EmptyViews.{known-none, known-at}

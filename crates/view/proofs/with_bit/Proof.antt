@@ -1,3 +1,4 @@
+-- `view::with_bit` meets its contract. By the two cases; the sum fits since the word is below the bit.
 use native.Mathlib.Omega.{arith}
 use mathlib.Core.Path.{_≡_, refl, sym, ap, ap₂, _∙_}
 use Prim.Native.Nat.{_+_}
