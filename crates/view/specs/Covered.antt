@@ -1,23 +1,23 @@
 -- Coverage: the places of a node at or below its entries.
-use mathlib.Core.Path.{_≡_, refl, sym, ap, ap₂, _∙_, subst}
+use mathlib.Core.Path.{_≡_, refl, sym, ap, ap₂, _∙_}
 use mathlib.Core.Bool.{Bool, true, false, _&&_, _||_}
-use mathlib.Core.List.{List, [], _∷_, _++_}
+use mathlib.Core.List.{List, [], _∷_}
 use mathlib.Core.Logic.{⊎-elim}
 use Prim.Native.Nat.{ℕ, zero, suc, _+_, _-_, _*_, _/_, _%_, _^_, _≤_, _<_, max}
 use native.Mathlib.Omega.{arith}
 use native.Mathlib.Nat.{not-suc-le-zero, le-of-suc-le-suc, eq-or-lt-of-le}
 use lib.Bits.{bitOr, or-step}
 use lib.Count.{trailingZeros, leadingZeros}
-use lib.Dec.{eqb, ltb}
+use lib.Dec.{eqb}
 use lib.ListN.{length, getD, length-append, List·getD-append}
 use lib.Pow.{pow-pos, pow-mono}
 use lib.Seq.{getD-at}
-use borrow.Author.Tests.{eqb-true, eqb-false, eq-eqb, ne-eqb}
-use Rattle.defs.specs.Basics.{if_then_else_, upTo}
+use borrow.Author.Tests.{eqb-true, ne-eqb}
+use Rattle.defs.specs.Basics.{upTo}
 use Rattle.defs.specs.Pool.{bit, dataBit}
 use Rattle.defs.specs.Entries.{Place, dataPlace, childPlace}
 use Rattle.defs.specs.Tidy.{wordOf}
-use Rattle.defs.specs.Lemmas.{All, nil, more, all-imp, all-append, split, and-left, and-right}
+use Rattle.defs.specs.Lemmas.{All, nil, more, all-imp, all-append, and-left, and-right}
 use Rattle.bits.specs.Places.{placeLen, placeValue}
 use Rattle.bits.specs.PlaceLaws.{place-len, place-value, place-len-below, made}
 use Rattle.bits.specs.WordLaws.{bit-none}
@@ -25,7 +25,7 @@ use Rattle.bits.specs.Worked.{one-shl}
 use Rattle.theory.specs.Steps.{placeBit}
 use Rattle.theory.specs.Unwanted.{InNode}
 use Rattle.view.specs.declared.Coverage.{Coverage}
-use Rattle.view.specs.Spreads.{belowAll, below-at, bit-first, bit-later, eqb-suc, Lowly, lowly, one, word-on}
+use Rattle.view.specs.Spreads.{belowAll, below-at, bit-first, bit-later, eqb-suc, lowly, one, word-on}
 
 -- some entry of a data bitmap stands above the n bits of value v
 abbrev pub coveredBits : ℕ → ℕ → ℕ → Bool

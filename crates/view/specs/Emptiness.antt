@@ -2,21 +2,19 @@
 use mathlib.Core.Path.{_≡_, refl, sym, ap, ap₂, _∙_, subst}
 use mathlib.Core.Bool.{Bool, true, false, _&&_, false≢true}
 use mathlib.Core.List.{List, [], _∷_, _++_}
-use mathlib.Core.Logic.{⊎-elim}
-use Prim.Native.Nat.{ℕ, zero, suc, _+_, _-_, _*_, _/_, _%_, _^_, _≤_, _<_}
+use Prim.Native.Nat.{ℕ, zero, suc, _+_, _-_, _^_, _≤_, _<_}
 use native.Mathlib.Omega.{arith}
 use native.Mathlib.Numerals.{add-one}
-use native.Mathlib.Nat.{not-suc-le-zero, le-of-suc-le-suc, eq-or-lt-of-le, mod-eq-of-lt}
+use native.Mathlib.Nat.{mod-eq-of-lt}
 use lib.Dec.{eqb, ltb}
-use lib.ListN.{length, getD}
+use lib.ListN.{getD}
 use lib.Pow.{pow-pos}
-use borrow.Author.Tests.{eqb-true, eqb-false, eq-eqb, ne-eqb, ltb-true, ltb-false}
+use borrow.Author.Tests.{eqb-true, eq-eqb, ne-eqb, ltb-true, ltb-false}
 use Rattle.defs.specs.declared.Prefix.{Prefix}
-use Rattle.defs.specs.Basics.{if_then_else_, each, every, upTo}
+use Rattle.defs.specs.Basics.{if_then_else_, each, every}
 use Rattle.defs.specs.Prefix.{deeper}
 use Rattle.defs.specs.Pool.{nodeCount, dataOf, childOf, firstChild, bit, rank, ones, dataBit}
 use Rattle.defs.specs.Entries.{Entry, Place, dataPlace, childPlace, places, heldAt, entriesAt}
-use Rattle.defs.specs.Tidy.{wordOf}
 use Rattle.defs.specs.Lemmas.{All, nil, more, all-imp, split, not-both, and-left, and-right}
 use Rattle.bits.specs.Places.{placeLen, placeValue}
 use Rattle.bits.specs.PlaceLaws.{made, data-place, place-len-below}

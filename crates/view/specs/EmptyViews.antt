@@ -1,22 +1,20 @@
 -- An empty view: what lies under a root's place, and when that is nothing.
 use mathlib.Core.Path.{_≡_, refl, sym, ap, ap₂, _∙_, subst}
-use mathlib.Core.Bool.{Bool, true, false, not, _&&_, _||_, false≢true}
-use mathlib.Core.List.{List, [], _∷_, _++_}
-use Prim.Native.Nat.{ℕ, zero, suc, _+_, _-_, _*_, _/_, _%_, _^_, _≤_, _<_}
+use mathlib.Core.Bool.{Bool, true, false, _&&_, false≢true}
+use mathlib.Core.List.{List}
+use Prim.Native.Nat.{ℕ, zero, suc, _+_, _-_, _*_, _/_, _^_, _≤_, _<_}
 use native.Mathlib.Omega.{arith}
-use native.Mathlib.Nat.{mod-eq-of-lt, lt-of-lt-of-le}
 use native.Mathlib.Numerals.{add-one}
 use lib.Dec.{eqb}
-use lib.Pow.{pow-pos}
 use borrow.Author.Tests.{eqb-true, eq-eqb, ne-eqb}
 use Rattle.defs.specs.declared.Prefix.{Prefix}
-use Rattle.defs.specs.Basics.{if_then_else_, each, every}
+use Rattle.defs.specs.Basics.{every}
 use Rattle.defs.specs.Prefix.{leads, deeper}
 use Rattle.defs.specs.Pool.{nodeCount, childOf, bit, dataBit}
 use Rattle.defs.specs.PrefixLaws.{Whole, leads-len, whole-long, cut-le}
 use Rattle.defs.specs.Entries.{Entry, Place, dataPlace, childPlace, places, entriesAt, under, view}
 use Rattle.defs.specs.EntryLaws.{sound}
-use Rattle.defs.specs.Lemmas.{All, all-imp, split, not-both, is-false, and-left, and-right}
+use Rattle.defs.specs.Lemmas.{All, all-imp, split, and-left, and-right}
 use Rattle.bits.specs.Places.{placePrefix}
 use Rattle.bits.specs.PlaceLaws.{child-place, place-prefix}
 use Rattle.bits.specs.WordLaws.{bit-none}
@@ -30,7 +28,7 @@ use Rattle.theory.specs.Unwanted.{InNode, places-in-node}
 use Rattle.view.specs.declared.Found.{Found}
 use Rattle.view.specs.declared.Found.the-variants as found
 use Rattle.view.specs.Standing.{Sane, NodeIn, in-at, child-in, child-inside}
-use Rattle.view.specs.Spreads.{belowAll, below-at, word-on}
+use Rattle.view.specs.Spreads.{belowAll, below-at}
 use Rattle.view.specs.Covered.{words-zero}
 use Rattle.view.specs.Kept.{isValue, keptOf, kept-bit}
 use Rattle.view.specs.Emptiness.{isNil, emptyAt, empty-says, iff, both-true, nil-each, every-all, all-every, below-of, below-fails, place-all}

@@ -4,11 +4,11 @@ use mathlib.Core.Bool.{Bool, true, false, _&&_, _||_}
 use mathlib.Core.List.{List, [], _∷_, _++_}
 use Prim.Native.Nat.{ℕ, zero, suc, _+_, _-_, _*_, _/_, _%_, _^_, _≤_, _<_}
 use native.Mathlib.Omega.{arith}
-use native.Mathlib.Nat.{mod-lt, mod-eq-of-lt, mul-add-div-right}
+use native.Mathlib.Nat.{mod-lt, mod-eq-of-lt}
 use native.Mathlib.Numerals.{add-one}
 use lib.Dec.{eqb}
 use lib.ListN.{length}
-use lib.Pow.{pow-pos, pow-mono, mod-pow-add, shr-shr, high as pow-high}
+use lib.Pow.{pow-mono, mod-pow-add, shr-shr, high as pow-high}
 use Rattle.defs.specs.declared.Prefix.{Prefix}
 use Rattle.defs.specs.Basics.{if_then_else_, upTo}
 use Rattle.defs.specs.Prefix.{first, leads, deeper}
@@ -17,7 +17,6 @@ use Rattle.defs.specs.PrefixLaws.{Whole, leads-of, leads-trans}
 use Rattle.defs.specs.Entries.{Place, dataPlace, childPlace}
 use Rattle.defs.specs.Tidy.{wordOf}
 use Rattle.defs.specs.Outcome.{Side}
-use Rattle.defs.specs.Lemmas.{All, nil, more, all-imp, all-append, split}
 use Rattle.bits.specs.Places.{placeLen, placeValue, placePrefix}
 use Rattle.bits.specs.PlaceLaws.{made, data-place, place-len-below, place-prefix}
 use Rattle.bits.specs.Worked.{one-shl}
@@ -27,7 +26,7 @@ use Rattle.theory.specs.declared.Node.the-variants.{Absent, At}
 use Rattle.theory.specs.declared.Value.{Value}
 use Rattle.theory.specs.declared.Value.the-variants.{Missing, Is}
 use Rattle.theory.specs.declared.Cover.{Cover}
-use Rattle.theory.specs.declared.Cover.the-variants.{Nothing, Of}
+use Rattle.theory.specs.declared.Cover.the-variants.{Nothing}
 use Rattle.theory.specs.Sides.{valueIn}
 use Rattle.theory.specs.Down.{deeper-first}
 use Rattle.theory.specs.Steps.{placeBit, nearer, coverBits, coverOn, isCover}

@@ -1,5 +1,5 @@
 -- `view::kid_is_empty` meets its contract. By the cases of the child.
-use mathlib.Core.Path.{_≡_, refl, sym, ap, ap₂, _∙_}
+use mathlib.Core.Path.{_∙_}
 use Rattle.view.specs.EmptyViews.{kid-none, kid-in, kid-absent, kid-at}
 use borrow.Author.Needs.{needs}
 use Rattle.view.proofs.kid_is_empty.Statement.{statement}

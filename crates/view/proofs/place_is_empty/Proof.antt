@@ -1,6 +1,6 @@
 -- `view::place_is_empty` meets its contract. At each turn the first c children hold nothing; the measure is the children left.
 use native.Mathlib.Omega.{arith}
-use mathlib.Core.Path.{_≡_, refl, sym, ap, ap₂, _∙_}
+use mathlib.Core.Path.{sym, _∙_}
 use Prim.Native.Nat.{_-_}
 use borrow.Author.Tests.{not-true, not-false}
 use Rattle.view.specs.EmptyViews.{Searching, searching-start, searching-on, searching-fails, searching-ends, under-kept}
