@@ -3,7 +3,6 @@ pub mod Standing
 -- The numbers of a node's places, and one word for all of them.
 pub mod Numbers
 pub mod Spreads
-pub mod Bitwise
 -- The nearest entry above a place.
 pub mod Climb
 -- The way down to a root.
