@@ -1,31 +1,31 @@
 -- Coverage: the places of a node at or below its entries.
-use mathlib.Core.Path.{_≡_, refl, sym, ap, ap₂, _∙_, subst}
+use mathlib.Core.Path.{_≡_, refl, sym, ap, ap₂, _∙_}
 use mathlib.Core.Bool.{Bool, true, false, _&&_, _||_}
-use mathlib.Core.List.{List, [], _∷_, _++_}
+use mathlib.Core.List.{List, [], _∷_}
 use mathlib.Core.Logic.{⊎-elim}
 use Prim.Native.Nat.{ℕ, zero, suc, _+_, _-_, _*_, _/_, _%_, _^_, _≤_, _<_, max}
 use native.Mathlib.Omega.{arith}
 use native.Mathlib.Nat.{not-suc-le-zero, le-of-suc-le-suc, eq-or-lt-of-le}
 use lib.Bits.{bitOr, or-step}
 use lib.Count.{trailingZeros, leadingZeros}
-use lib.Dec.{eqb, ltb}
+use lib.Dec.{eqb}
 use lib.ListN.{length, getD, length-append, List·getD-append}
 use lib.Pow.{pow-pos, pow-mono}
 use lib.Seq.{getD-at}
-use borrow.Author.Tests.{eqb-true, eqb-false, eq-eqb, ne-eqb}
-use Rattle.defs.specs.Basics.{if_then_else_, upTo}
+use borrow.Author.Tests.{eqb-true, ne-eqb}
+use Rattle.defs.specs.Basics.{upTo}
 use Rattle.defs.specs.Pool.{bit, dataBit}
 use Rattle.defs.specs.Entries.{Place, dataPlace, childPlace}
 use Rattle.defs.specs.Tidy.{wordOf}
-use Rattle.defs.specs.Lemmas.{split, and-left, and-right}
+use Rattle.defs.specs.Lemmas.{All, nil, more, all-imp, all-append, and-left, and-right}
 use Rattle.bits.specs.Places.{placeLen, placeValue}
-use Rattle.bits.specs.PlaceLaws.{place-len, place-value}
+use Rattle.bits.specs.PlaceLaws.{place-len, place-value, place-len-below, made}
 use Rattle.bits.specs.WordLaws.{bit-none}
 use Rattle.bits.specs.Worked.{one-shl}
 use Rattle.theory.specs.Steps.{placeBit}
 use Rattle.theory.specs.Unwanted.{InNode}
 use Rattle.view.specs.declared.Coverage.{Coverage}
-use Rattle.view.specs.Spreads.{belowAll, below-at, bit-first, bit-later, eqb-suc, Lowly, lowly, one}
+use Rattle.view.specs.Spreads.{belowAll, below-at, bit-first, bit-later, eqb-suc, lowly, one, word-on}
 
 -- some entry of a data bitmap stands above the n bits of value v
 abbrev pub coveredBits : ℕ → ℕ → ℕ → Bool
@@ -62,6 +62,10 @@ bytesAt t at = getD t at 0 + 256 * getD t (at + 1) 0 + 65536 * getD t (at + 2) 0
 pub length-up : (n : ℕ) → length (upTo n) ≡ n
 length-up zero = refl
 length-up (suc n) = let l = length-append (upTo n) (n ∷ []) in omega (arith, length-up n)
+
+pub up-below : (n : ℕ) → All (λ b. b < n) (upTo n)
+up-below zero = nil
+up-below (suc n) = all-append (all-imp (λ b h. omega arith) (up-below n)) (more (omega arith) nil)
 
 up-at : (n b : ℕ) → b < n → getD (upTo n) b 0 ≡ b
 up-at zero b h = absurd (not-suc-le-zero h)
@@ -143,6 +147,17 @@ words-bit f (dataPlace n v) h =
     (ap (λ (k : ℕ). dataPlace (placeLen k) (placeValue k)) e
     ∙ ap₂ dataPlace (place-len n v (omega (arith, h .0)) (h .1)) (place-value n v (omega (arith, h .0)) (h .1)))
 words-bit f (childPlace c) h = number-bit (λ k. f (childPlace k)) 32 c h
+
+-- a word is 0 where no data place passes the test
+pub words-zero : (f : Place → Bool) → ((n v : ℕ) → n ≤ 4 → v < 2 ^ n → f (dataPlace n v) ≡ false) → wordsOf f .data ≡ 0
+unfolding wordsOf
+words-zero f h = word-on (λ b. f (dataAt b)) (λ b. false) none (up-below 31)
+  where
+    none : (b : ℕ) → b < 31 → f (dataAt b) ≡ false
+    none b l =
+        let m = made (b + 1) (omega arith) (omega arith) in
+        let k = place-len-below (b + 1) (omega arith) (omega arith) 5 (omega arith) in
+        h (placeLen (b + 1)) (placeValue (b + 1)) (omega arith) (m .value)
 
 -- FOR CALLERS: the coverage of a data bitmap says which places its entries cover
 pub coverage-bit : (k : ℕ) (x : Place) → InNode x → placeBit (coverageOf k .data) (coverageOf k .child) x ≡ coveredBy k x

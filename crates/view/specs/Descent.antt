@@ -1,6 +1,6 @@
 -- The way down to a root: one level at a time, by the root's next 5 bits. The view at the root lies in the node that is reached.
 use mathlib.Core.Path.{_≡_, refl, sym, ap, ap₂, _∙_, subst}
-use mathlib.Core.Bool.{Bool, true, false, _&&_}
+use mathlib.Core.Bool.{true, _&&_}
 use mathlib.Core.List.{List, [], _∷_}
 use Prim.Native.Nat.{ℕ, zero, suc, _+_, _-_, _*_, _/_, _%_, _^_, _≤_, _<_}
 use native.Mathlib.Omega.{arith}
@@ -9,7 +9,6 @@ use lib.Dec.{leb, eqb}
 use lib.Pow.{pow-pos, pow-add, shl-shr, shr-shr}
 use Rattle.defs.specs.declared.Prefix.{Prefix}
 use Rattle.defs.specs.Prefix.{first, leads, deeper, top}
-use Rattle.defs.specs.Pool.{nodeCount}
 use Rattle.defs.specs.Entries.{Entry, entriesAt, under, view}
 use Rattle.defs.specs.PrefixLaws.{cut, cut-whole, Whole, prefix-eq, leads-of}
 use Rattle.theory.specs.declared.Node.{Node}
@@ -93,6 +92,14 @@ module _ (w : List ℕ) (root : Prefix) where
       (subst (λ (x : Prefix). leads x root ≡ true) (sym n) (cut-leads root (5 * k + 5) (omega arith))) (mod-lt (first (5 * k + 5) (root .key)) (pow-pos 5))
       ∙ ap (λ (x : Prefix). sideEntries w root levels (childIn w root (nodeDown w root k) c x) x) n
       ∙ ap (λ (x : ℕ). sideEntries w root levels (nodeDown w root (suc k)) (cutTo root x)) d
+
+  -- FOR CALLERS: the same by the depth, as `at_depth` has it
+  pub view-depth : root .key < 2 ^ 64 → root .len ≤ 64 → (depth levels : ℕ) → depth + 5 * levels ≡ 65 → depth ≤ root .len
+      → view w root ≡ sideEntries w root levels (nodeDown w root (depth / 5)) (cutTo root depth)
+  view-depth fits long depth levels e l =
+      let f : 5 * (depth / 5) ≡ depth = omega arith in
+      view-down fits long (depth / 5) levels (omega arith) (omega arith)
+      ∙ ap (λ (x : ℕ). sideEntries w root levels (nodeDown w root (depth / 5)) (cutTo root x)) f
 
   pub down-in : Sane w → (o : Node) (d : ℕ) → NodeIn w o → NodeIn w (downOf w root o d)
   down-in s o d h = child-in w s root o (nextBits d 5 (root .key)) (cutTo root (d + 5)) (mod-lt (first (d + 5) (root .key)) (pow-pos 5)) h

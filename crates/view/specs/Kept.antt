@@ -4,11 +4,11 @@ use mathlib.Core.Bool.{Bool, true, false, _&&_, _||_}
 use mathlib.Core.List.{List, [], _∷_, _++_}
 use Prim.Native.Nat.{ℕ, zero, suc, _+_, _-_, _*_, _/_, _%_, _^_, _≤_, _<_}
 use native.Mathlib.Omega.{arith}
-use native.Mathlib.Nat.{mod-lt, mod-eq-of-lt, mul-add-div-right}
+use native.Mathlib.Nat.{mod-lt, mod-eq-of-lt}
 use native.Mathlib.Numerals.{add-one}
 use lib.Dec.{eqb}
 use lib.ListN.{length}
-use lib.Pow.{pow-pos, pow-mono, mod-pow-add, shr-shr, high as pow-high}
+use lib.Pow.{pow-mono, mod-pow-add, shr-shr, high as pow-high}
 use Rattle.defs.specs.declared.Prefix.{Prefix}
 use Rattle.defs.specs.Basics.{if_then_else_, upTo}
 use Rattle.defs.specs.Prefix.{first, leads, deeper}
@@ -17,7 +17,6 @@ use Rattle.defs.specs.PrefixLaws.{Whole, leads-of, leads-trans}
 use Rattle.defs.specs.Entries.{Place, dataPlace, childPlace}
 use Rattle.defs.specs.Tidy.{wordOf}
 use Rattle.defs.specs.Outcome.{Side}
-use Rattle.defs.specs.Lemmas.{All, nil, more, all-imp, all-append, split}
 use Rattle.bits.specs.Places.{placeLen, placeValue, placePrefix}
 use Rattle.bits.specs.PlaceLaws.{made, data-place, place-len-below, place-prefix}
 use Rattle.bits.specs.Worked.{one-shl}
@@ -27,7 +26,7 @@ use Rattle.theory.specs.declared.Node.the-variants.{Absent, At}
 use Rattle.theory.specs.declared.Value.{Value}
 use Rattle.theory.specs.declared.Value.the-variants.{Missing, Is}
 use Rattle.theory.specs.declared.Cover.{Cover}
-use Rattle.theory.specs.declared.Cover.the-variants.{Nothing, Of}
+use Rattle.theory.specs.declared.Cover.the-variants.{Nothing}
 use Rattle.theory.specs.Sides.{valueIn}
 use Rattle.theory.specs.Down.{deeper-first}
 use Rattle.theory.specs.Steps.{placeBit, nearer, coverBits, coverOn, isCover}
@@ -35,7 +34,7 @@ use Rattle.theory.specs.Todo.{word-lt}
 use Rattle.theory.specs.Unwanted.{InNode}
 use Rattle.view.specs.Standing.{Sane}
 use Rattle.view.specs.Spreads.{one, word-on}
-use Rattle.view.specs.Covered.{coveredBits, coveredBy, dataAt, wordsOf, coverageOf, words-bit, coverage-bit, length-up}
+use Rattle.view.specs.Covered.{coveredBits, coveredBy, dataAt, wordsOf, coverageOf, words-bit, coverage-bit, length-up, up-below}
 
 abbrev pub isValue : Value → Bool
 isValue Missing = false
@@ -89,10 +88,6 @@ module _ (s : Side) (o : Node) (p : Prefix) where
 
 -- ---- how it is worked out
 
-pub up-below : (n : ℕ) → All (λ b. b < n) (upTo n)
-up-below zero = nil
-up-below (suc n) = all-append (all-imp (λ b h. omega arith) (up-below n)) (more (omega arith) nil)
-
 word-snoc : (f : ℕ → Bool) (a : List ℕ) (x : ℕ) → wordOf f (a ++ (x ∷ [])) ≡ wordOf f a + one (f x) * 2 ^ length a
 word-snoc f [] x = omega arith
 word-snoc f (y ∷ a) x =
@@ -116,7 +111,7 @@ one-bit (suc zero) h = refl
 one-bit (suc (suc r)) h = absurd (omega arith)
 
 -- the word of a number's own bits
-bits-back : (t n : ℕ) → wordOf (λ b. bit b t) (upTo n) ≡ t % 2 ^ n
+pub bits-back : (t n : ℕ) → wordOf (λ b. bit b t) (upTo n) ≡ t % 2 ^ n
 bits-back t zero = let e : t % 1 ≡ 0 = omega arith in sym e
 bits-back t (suc n) =
     let e : 1 + n ≡ suc n = omega arith in

@@ -10,3 +10,6 @@ pub mod Descent
 -- What entries cover.
 pub mod Covered
 pub mod Kept
+-- What is empty.
+pub mod Emptiness
+pub mod EmptyViews

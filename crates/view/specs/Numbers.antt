@@ -1,12 +1,12 @@
 -- The places of a node by their numbers: 2 ^ n + v for the n bits of value v, 32 + c for child c.
-use mathlib.Core.Path.{_≡_, refl, sym, ap, ap₂, _∙_}
+use mathlib.Core.Path.{_≡_, refl, sym, ap, ap₂}
 use mathlib.Core.List.{List, [], _∷_, map}
-use Prim.Native.Nat.{ℕ, zero, suc, _+_, _-_, _*_, _^_, _≤_, _<_}
+use Prim.Native.Nat.{ℕ, zero, suc, _+_, _-_, _^_, _≤_, _<_}
 use native.Mathlib.Omega.{arith}
 use native.Mathlib.Nat.{not-suc-le-zero, le-of-suc-le-suc}
 use lib.Pow.{pow-pos, pow-mono}
 use lib.ListN.{length, getD}
-use Rattle.defs.specs.Entries.{Place, dataPlace, childPlace, placesAt, places}
+use Rattle.defs.specs.Entries.{Place, dataPlace, childPlace, places}
 use Rattle.defs.specs.Lemmas.{All, nil, more}
 use Rattle.bits.specs.Places.{placeLen, placeValue}
 use Rattle.bits.specs.PlaceLaws.{place-len, place-value}
@@ -37,7 +37,7 @@ numbered (dataPlace n v) i =
 numbered (childPlace c) i =
     record { some = omega arith; below = omega arith; is-data = λ l. absurd (omega arith); is-child = λ l. ap childPlace (omega arith) }
 
-all-at : {A : Type 0} {P : A → Type 0} {l : List A} → All P l → (d : A) (z : ℕ) → z < length l → P (getD l z d)
+pub all-at : {A : Type 0} {P : A → Type 0} {l : List A} → All P l → (d : A) (z : ℕ) → z < length l → P (getD l z d)
 all-at nil d z h = absurd (not-suc-le-zero h)
 all-at (more k ks) d zero h = k
 all-at (more k ks) d (suc z) h = all-at ks d z (le-of-suc-le-suc h)

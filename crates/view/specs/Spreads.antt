@@ -1,6 +1,6 @@
 -- One word for a node's two bitmaps, one bit a place in prefix order: taken apart bit by bit.
-use mathlib.Core.Path.{_≡_, refl, sym, ap, ap₂, _∙_, subst}
-use mathlib.Core.Bool.{Bool, true, false, _&&_}
+use mathlib.Core.Path.{_≡_, refl, sym, ap, _∙_, subst}
+use mathlib.Core.Bool.{Bool, true, _&&_}
 use mathlib.Core.Logic.{⊎-elim}
 use mathlib.Core.List.{List, [], _∷_}
 use Prim.Native.Nat.{ℕ, zero, suc, _+_, _-_, _*_, _/_, _%_, _^_, _≤_, _<_}
@@ -8,7 +8,7 @@ use native.Mathlib.Omega.{arith}
 use native.Mathlib.Nat.{not-suc-le-zero, le-of-suc-le-suc, eq-or-lt-of-le, mod-lt, div-add-mod', mul-add-mod-self-right, mul-add-div-right}
 use lib.Count.{trailingZeros}
 use lib.Dec.{eqb, ltb}
-use lib.ListN.{length, getD}
+use lib.ListN.{getD}
 use lib.Pow.{pow-pos, pow-mono, field, mod-mod-pow, low, high, shr-shr}
 use borrow.Author.Tests.{ltb-true, eqb-true, eqb-false, eq-eqb, ne-eqb}
 use Rattle.defs.specs.Basics.{if_then_else_}
@@ -16,10 +16,10 @@ use Rattle.defs.specs.Pool.{bit, dataBit}
 use Rattle.defs.specs.Entries.{Place, dataPlace, childPlace, places}
 use Rattle.defs.specs.Tidy.{wordOf}
 use Rattle.defs.specs.Lemmas.{All, nil, more, split, and-left, and-right}
-use Rattle.bits.specs.WordLaws.{bit-zero, bit-suc, bit-none}
+use Rattle.bits.specs.WordLaws.{bit-zero, bit-suc}
 use Rattle.bits.specs.Worked.{one-shl}
 use Rattle.theory.specs.Steps.{placeBit}
-use Rattle.theory.specs.Todo.{word-lt, Lowest, lowest}
+use Rattle.theory.specs.Todo.{word-lt, lowest}
 use Rattle.theory.specs.Unwanted.{InNode, places-in-node}
 use Rattle.theory.specs.Walk.{places-length}
 

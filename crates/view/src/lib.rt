@@ -5,7 +5,8 @@ ghost use Prim.Native.Nat.{_+_, _*_, _/_, _%_, _^_, _≤_, _<_};
 ghost use lib.ListN.{length};
 ghost use Rattle.defs.specs.Basics.{upTo};
 ghost use Rattle.defs.specs.Pool.{nodeCount};
-ghost use Rattle.defs.specs.Entries.{places};
+ghost use Rattle.defs.specs.Prefix.{deeper};
+ghost use Rattle.defs.specs.Entries.{places, view};
 ghost use Rattle.defs.specs.Tidy.{wordOf};
 ghost use Rattle.defs.specs.PrefixLaws.{Whole};
 ghost use Rattle.bits.specs.Places.{placeLen, placeValue};
@@ -17,6 +18,8 @@ ghost use Rattle.view.specs.Spreads.{one, aloneOf};
 ghost use Rattle.view.specs.Descent.{cutTo, downOf, nodeDown, foundOf};
 ghost use Rattle.view.specs.Covered.{wordsOf, coverageOf, joinOf, bytesAt};
 ghost use Rattle.view.specs.Kept.{keptBit, keptOf};
+ghost use Rattle.view.specs.Emptiness.{isNil, emptyAt};
+ghost use Rattle.view.specs.EmptyViews.{Ending, emptyKid, emptyUnder};
 use defs::Prefix;
 use theory::Cover;
 use theory::Node;
@@ -354,5 +357,81 @@ pub fn kept_data(words: &[u32], root: Prefix, node: Node, p: Prefix) -> u32
             }
             kept_places(held, root, p)
         }
+    }
+}
+
+// Nothing lies in a node or below it, so many levels deep: it has no value, and each of its children is asked the same with one level less.
+pub fn is_empty(words: &[u32], node: u32, levels: u32) -> bool
+    requires { ⌜ Sane (now words) × (node < nodeCount (now words)) ⌝ }
+    ensures { λ r. ⌜ r ≡ emptyAt (now (words .entry)) levels node ⌝ }
+{
+    if levels == 0 {
+        return true;
+    }
+    if pool::data_bits(words, node as usize) != 0 {
+        return false;
+    }
+    let first = pool::first_child(words, node as usize);
+    let count = bits::ones(pool::child_bits(words, node as usize));
+    let mut j: u32 = 0;
+    while j < count {
+        if !is_empty(words, first + j, levels - 1) {
+            return false;
+        }
+        j += 1;
+    }
+    true
+}
+
+// Child c of a root's node holds nothing of the view. With no level left below, there is no child to ask.
+fn kid_is_empty(words: &[u32], root: Prefix, node: u32, p: Prefix, c: u32, levels: u32) -> bool
+    requires { ⌜ Sane (now words) × (node < nodeCount (now words)) × Ending root p levels × (c < 32) ⌝ }
+    ensures { λ r. ⌜ r ≡ emptyKid (now (words .entry)) levels (childIn (now (words .entry)) root (Node.At node) c (deeper p 5 c)) ⌝ }
+{
+    if levels == 0 {
+        return true;
+    }
+    match child_at(
+        words,
+        root,
+        Node::At(node),
+        c,
+        bits::place_prefix(p, 32 + c),
+    ) {
+        Node::Absent => true,
+        Node::At(k) => is_empty(words, k, levels),
+    }
+}
+
+// Nothing of the view at a root lies in the root's node or below it: no value is kept, and no child holds anything.
+fn place_is_empty(words: &[u32], root: Prefix, node: u32, p: Prefix, levels: u32) -> bool
+    requires { ⌜ Sane (now words) × (node < nodeCount (now words)) × Ending root p levels ⌝ }
+    ensures { λ r. ⌜ r ≡ emptyUnder (now (words .entry)) root levels node p ⌝ }
+{
+    if kept_data(words, root, Node::At(node), p) != 0 {
+        return false;
+    }
+    let mut c: u32 = 0;
+    while c < 32 {
+        if !kid_is_empty(words, root, node, p, c, levels) {
+            return false;
+        }
+        c += 1;
+    }
+    true
+}
+
+// The view at a root is empty.
+pub fn view_is_empty(words: &[u32], root: Prefix) -> bool
+    requires { ⌜ Sane (now words) × (root .len ≤ 64) ⌝ }
+    ensures { λ r. ⌜ r ≡ isNil (view (now (words .entry)) root) ⌝ }
+{
+    match find(words, root) {
+        Found::Nothing => true,
+        Found::At {
+            node,
+            prefix,
+            root: clean,
+        } => place_is_empty(words, clean, node, prefix, 12 - prefix.len / 5),
     }
 }

@@ -1,3 +1,4 @@
+-- `view::at_depth` meets its contract. At depth d the node is the one d / 5 levels down; the measure is what is left of the depth.
 use native.Mathlib.Omega.{arith}
 use Prim.Native.Nat.{_-_}
 use Rattle.view.specs.Descent.{Going, going-start, going-in, going-on, going-end}

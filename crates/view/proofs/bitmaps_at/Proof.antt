@@ -1,3 +1,4 @@
+-- `view::bitmaps_at` meets its contract. By the cases of the node.
 use mathlib.Core.Path.{sym, ap}
 use Rattle.view.specs.Standing.{in-at, bitmapsOf}
 use borrow.Author.Needs.{needs}

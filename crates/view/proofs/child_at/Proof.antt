@@ -1,4 +1,5 @@
-use mathlib.Core.Path.{_≡_, refl, sym, ap, ap₂, _∙_}
+-- `view::child_at` meets its contract. By the cases of the node.
+use mathlib.Core.Path.{sym, ap, _∙_}
 use Rattle.view.specs.Standing.{in-at}
 use Rattle.theory.specs.Sides.{childIn}
 use borrow.Author.Needs.{needs}

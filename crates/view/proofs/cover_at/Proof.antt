@@ -1,5 +1,5 @@
+-- `view::cover_at` meets its contract. At each turn nothing between the place and `up` has a value; the measure is `up`.
 use native.Mathlib.Omega.{arith}
-use mathlib.Core.Path.{_≡_, refl, sym, ap, ap₂, _∙_}
 use borrow.Author.Needs.{needs}
 use Rattle.view.specs.Climb.{Climbing, climb-start, climb-on, climb-stop, climb-end, climb-room, half-some}
 use Rattle.view.proofs.cover_at.Statement.{statement}

@@ -1,5 +1,6 @@
+-- `view::find` meets its contract. By the cases of the node on the way.
 use Rattle.view.specs.Descent.{foundAt, found-node}
-use mathlib.Core.Path.{_≡_, refl, sym, ap, ap₂, _∙_}
+use mathlib.Core.Path.{sym, ap, _∙_}
 use borrow.Author.Needs.{needs}
 use Rattle.view.proofs.find.Statement.{statement}
 use Rattle.view.proofs.find.Tie as tie

@@ -1,5 +1,6 @@
+-- `view::held_child` meets its contract. By the two tests; the sum fits since a child is a node of the pool.
 use borrow.Author.Tests.{not-true, not-false}
-use mathlib.Core.Path.{_≡_, refl, sym, ap, ap₂, _∙_}
+use mathlib.Core.Path.{sym, _∙_}
 use Rattle.view.specs.Standing.{child-unset, child-outside, child-held, child-room}
 use borrow.Author.Needs.{needs}
 use Rattle.view.proofs.held_child.Statement.{statement}

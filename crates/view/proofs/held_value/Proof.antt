@@ -1,5 +1,6 @@
+-- `view::held_value` meets its contract. By the two tests; the sum fits since every value index is below 31 times the nodes.
 use borrow.Author.Tests.{not-true, not-false}
-use mathlib.Core.Path.{_≡_, refl, sym, ap, ap₂, _∙_}
+use mathlib.Core.Path.{sym, _∙_}
 use Rattle.view.specs.Standing.{value-unset, value-outside, value-held, value-room}
 use borrow.Author.Needs.{needs}
 use Rattle.view.proofs.held_value.Statement.{statement}

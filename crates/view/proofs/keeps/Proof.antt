@@ -1,5 +1,6 @@
+-- `view::keeps` meets its contract. By the test of the bit.
 use native.Mathlib.Omega.{arith}
-use mathlib.Core.Path.{_≡_, refl, sym, ap, ap₂, _∙_}
+use mathlib.Core.Path.{sym, _∙_}
 use borrow.Author.Tests.{not-true, not-false}
 use Rattle.view.specs.Kept.{keep-unset, keep-test}
 use borrow.Author.Needs.{needs}

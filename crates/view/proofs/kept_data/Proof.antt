@@ -1,4 +1,5 @@
-use mathlib.Core.Path.{_≡_, refl, sym, ap, ap₂, _∙_}
+-- `view::kept_data` meets its contract. By the cases of the node; where the root leads the node's prefix, every set bit is kept.
+use mathlib.Core.Path.{sym, ap, _∙_}
 use Rattle.view.specs.Standing.{in-at}
 use Rattle.view.specs.Kept.{keptOf, kept-whole, kept-by-places, kept-none}
 use borrow.Author.Needs.{needs}

@@ -1,3 +1,4 @@
+-- `view::kept_places` meets its contract. The word of the first b data bits; the measure is the bits left.
 use native.Mathlib.Omega.{arith}
 use Prim.Native.Nat.{_-_}
 use Rattle.view.specs.Kept.{Keeping, keeping-start, keeping-small, keeping-on, keeping-end}

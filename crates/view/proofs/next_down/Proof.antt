@@ -1,4 +1,5 @@
-use mathlib.Core.Path.{_≡_, refl, sym, ap, ap₂, _∙_}
+-- `view::next_down` meets its contract. The root's next 5 bits are the child's place.
+use mathlib.Core.Path.{ap₂, _∙_}
 use Rattle.theory.specs.Sides.{childIn}
 use Rattle.view.specs.Descent.{next-bits}
 use borrow.Author.Needs.{needs}

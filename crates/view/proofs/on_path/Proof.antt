@@ -1,4 +1,5 @@
-use mathlib.Core.Path.{_≡_, refl, sym, ap, ap₂, _∙_}
+-- `view::on_path` meets its contract. By the first test.
+use mathlib.Core.Path.{sym, _∙_}
 use Rattle.view.specs.Standing.{on-path-first, on-path-second}
 use borrow.Author.Needs.{needs}
 use Rattle.view.proofs.on_path.Statement.{statement}

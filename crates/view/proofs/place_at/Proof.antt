@@ -1,3 +1,4 @@
+-- `view::place_at` meets its contract. The table is the numbers of the places in prefix order.
 use native.Mathlib.Omega.{arith}
 use Rattle.defs.specs.Entries.{places}
 use Rattle.view.specs.Numbers.{place-numbered, number-at}

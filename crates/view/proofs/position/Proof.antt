@@ -1,3 +1,4 @@
+-- `view::position` meets its contract. One computed test over the table gives its rule at each entry.
 use native.Mathlib.Omega.{arith}
 use Rattle.view.specs.Spreads.{positions, position-right}
 use borrow.Author.Needs.{needs}

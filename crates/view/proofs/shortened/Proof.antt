@@ -1,4 +1,5 @@
-use mathlib.Core.Path.{_≡_, refl, sym, ap, ap₂, _∙_}
+-- `view::shortened` meets its contract. From what the first bits are.
+use mathlib.Core.Path.{refl}
 use Rattle.defs.specs.PrefixLaws.{prefix-eq}
 use borrow.Author.Needs.{needs}
 use Rattle.view.proofs.shortened.Statement.{statement}

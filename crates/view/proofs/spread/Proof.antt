@@ -1,3 +1,4 @@
+-- `view::spread` meets its contract. What is written and what the bits left would give make up the whole; the measure is the bits left, as a number.
 use native.Mathlib.Omega.{arith}
 use borrow.Author.Needs.{needs}
 use Rattle.view.specs.Spreads.{Spreading, spread-start, spread-end, bit-inside, turn}

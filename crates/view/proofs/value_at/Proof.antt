@@ -1,5 +1,6 @@
+-- `view::value_at` meets its contract. By the cases of the node; place h has data bit h - 1.
 use native.Mathlib.Omega.{arith}
-use mathlib.Core.Path.{_≡_, refl, sym, ap, ap₂, _∙_}
+use mathlib.Core.Path.{_∙_}
 use Rattle.view.specs.Standing.{in-at, value-of}
 use borrow.Author.Needs.{needs}
 use Rattle.view.proofs.value_at.Statement.{statement}

@@ -1,5 +1,6 @@
+-- `view::with_bit` meets its contract. By the two cases; the sum fits since the word is below the bit.
 use native.Mathlib.Omega.{arith}
-use mathlib.Core.Path.{_≡_, refl, sym, ap, ap₂, _∙_}
+use mathlib.Core.Path.{ap, _∙_}
 use Prim.Native.Nat.{_+_}
 use Rattle.view.specs.Kept.{top-shift, top-fits, on-bit, off-bit}
 use borrow.Author.Needs.{needs}

@@ -1,3 +1,4 @@
+-- `view::Coverage::all` meets its contract. The constant is the words of all places.
 use Rattle.view.specs.Covered.{all-is}
 use Rattle.view.proofs.Coverage.all.Statement.{statement}
 use Rattle.view.proofs.Coverage.all.Tie as tie

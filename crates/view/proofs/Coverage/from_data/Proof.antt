@@ -1,3 +1,4 @@
+-- `view::Coverage::from_data` meets its contract. What is covered so far and what the entries left cover make up the whole; the measure is the bits left, as a number.
 use native.Mathlib.Omega.{arith}
 use lib.Pow.{pow-pos}
 use lib.Count.{trailingZeros}

@@ -1,3 +1,4 @@
+-- `view::Coverage::nothing` meets its contract. The constant is the words of no place.
 use Rattle.view.specs.Covered.{nothing-is}
 use Rattle.view.proofs.Coverage.nothing.Statement.{statement}
 use Rattle.view.proofs.Coverage.nothing.Tie as tie

@@ -1,3 +1,4 @@
+-- `view::Coverage::of_bit` meets its contract. One computed test over the two tables gives their rule at each bit.
 use Rattle.view.specs.Covered.{heldBytes, kidBytes, bit-covers}
 use borrow.Author.Needs.{needs}
 use Rattle.view.proofs.Coverage.of_bit.Statement.{statement}
