@@ -1,0 +1,10 @@
+-- Lists and words.
+pub mod ListFacts
+pub mod Words
+-- What a sorted list of entries has below a prefix.
+pub mod Halving
+-- The tidy pool, word by word, and what it holds.
+pub mod Layout
+pub mod Holds
+-- It looks at prefixes alone.
+pub mod Same

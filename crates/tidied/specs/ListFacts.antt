@@ -1,0 +1,144 @@
+-- Facts on lists: what stands where, rows, and what is kept. Nothing here is about prefixes.
+use mathlib.Core.Path.{_≡_, refl, sym, ap, ap₂, _∙_, subst}
+use mathlib.Core.Bool.{Bool, true, false, not, _&&_, _||_}
+use mathlib.Core.Logic.{⊎-elim}
+use mathlib.Core.List.{List, [], _∷_, _++_, map, append-assoc, append-nil}
+use Prim.Native.Nat.{ℕ, zero, suc, _+_, _-_, _*_, _/_, _%_, _^_, _≤_, _<_}
+use native.Mathlib.Omega.{arith}
+use native.Mathlib.Nat.{pow-succ', not-suc-le-zero, le-of-suc-le-suc, eq-or-lt-of-le, add-zero, add-assoc}
+use lib.Pow.{pow-mono}
+use lib.ListN.{length, getD, take, drop, length-append, List·getD-append, length-map}
+use lib.Seq.{getD-append-add, getD-at, split-at}
+use Rattle.defs.specs.Basics.{if_then_else_, keep, any, each, upTo}
+use Rattle.defs.specs.Pool.{dataBit}
+use Rattle.defs.specs.Lemmas.{All, nil, more, split, not-both, all-append, all-imp, map-append, each-append}
+
+module _ {A B : Type 0} where
+  -- what f gives at the j-th stands after what it gives before
+  pub each-at : (f : A → List B) (xs : List A) (j : ℕ) (d : A) → j < length xs
+      → each f xs ≡ each f (take j xs) ++ (f (getD xs j d) ++ each f (drop (suc j) xs))
+  each-at f xs j d h = ap (each f) (split-at xs j d h) ∙ each-append f (take j xs) (getD xs j d ∷ drop (suc j) xs)
+
+  pub all-each : {P : A → Type 0} {Q : B → Type 0} (f : A → List B) → ((x : A) → P x → All Q (f x)) → {xs : List A} → All P xs → All Q (each f xs)
+  all-each f g nil = nil
+  all-each f g (more h hs) = all-append (g _ h) (all-each f g hs)
+
+  pub each-none : {P : A → Type 0} (f : A → List B) → ((x : A) → P x → f x ≡ []) → {xs : List A} → All P xs → each f xs ≡ []
+  each-none f g nil = refl
+  each-none f g (more {x = x} h hs) = rw (g x h) (each-none f g hs)
+
+  pub each-ext : (f g : A → List B) → ((x : A) → f x ≡ g x) → (a : List A) → each f a ≡ each g a
+  each-ext f g h [] = refl
+  each-ext f g h (x ∷ a) = rw (h x, each-ext f g h a)
+
+  pub any-map : (f : B → Bool) (g : A → B) (a : List A) → any f (map g a) ≡ any (λ x. f (g x)) a
+  any-map f g [] = refl
+  any-map f g (x ∷ a) = ap (f (g x) ||_) (any-map f g a)
+
+  pub map-each : {C : Type 0} (f : B → C) (g : A → List B) (a : List A) → map f (each g a) ≡ each (λ x. map f (g x)) a
+  map-each f g [] = refl
+  map-each f g (x ∷ a) = map-append f (g x) (each g a) ∙ ap (map f (g x) ++_) (map-each f g a)
+
+  pub each-map : {C : Type 0} (f : B → List C) (g : A → B) (a : List A) → each f (map g a) ≡ each (λ x. f (g x)) a
+  each-map f g [] = refl
+  each-map f g (x ∷ a) = ap (f (g x) ++_) (each-map f g a)
+
+pub all-upTo : (n : ℕ) → All (λ c. c < n) (upTo n)
+all-upTo zero = nil
+all-upTo (suc n) = all-append (all-imp (λ c h. omega arith) (all-upTo n)) (more (omega arith) nil)
+
+pub length-upTo : (n : ℕ) → length (upTo n) ≡ n
+length-upTo zero = refl
+length-upTo (suc n) = omega (arith, length-append (upTo n) (n ∷ []), length-upTo n)
+
+module _ {A : Type 0} where
+  -- the i-th of f 0, f 1, ..
+  pub at-upTo : (f : ℕ → A) (n i : ℕ) (d : A) → i < n → getD (map f (upTo n)) i d ≡ f i
+  at-upTo f zero i d h = absurd (not-suc-le-zero h)
+  at-upTo f (suc n) i d h =
+      ap (λ (l : List A). getD l i d) (map-append f (upTo n) (n ∷ []))
+      ∙ ⊎-elim
+      (λ e. getD-at (map f (upTo n)) (f n) [] d i (length-map (upTo n) f ∙ length-upTo n ∙ sym e) ∙ ap f (sym e))
+      (λ l. List·getD-append (map f (upTo n)) (f n ∷ []) d i (let e = length-map (upTo n) f ∙ length-upTo n in omega arith) ∙ at-upTo f n i d l)
+      (eq-or-lt-of-le (le-of-suc-le-suc h))
+
+  -- rows of 1, 2, 4, .. : the v-th of row n stands at 2 ^ n - 1 + v
+  module _ (f : ℕ → ℕ → A) where
+    abbrev pub row : ℕ → List A
+    row n = map (f n) (upTo (2 ^ n))
+
+    abbrev pub rows : ℕ → List A
+    rows k = each (λ n. map (f n) (upTo (2 ^ n))) (upTo k)
+
+    pub rows-suc : (k : ℕ) → rows (suc k) ≡ rows k ++ row k
+    rows-suc k = each-append row (upTo k) (k ∷ []) ∙ ap (rows k ++_) (append-nil (row k))
+
+    pub length-row : (k : ℕ) → length (row k) ≡ 2 ^ k
+    length-row k = length-map (upTo (2 ^ k)) (f k) ∙ length-upTo (2 ^ k)
+
+    pub length-rows : (k : ℕ) → length (rows k) + 1 ≡ 2 ^ k
+    length-rows zero = refl
+    length-rows (suc k) =
+        let e = ap length (rows-suc k) ∙ length-append (rows k) (row k) in
+        omega (arith, length-rows k, length-row k, pow-succ' 2 k)
+
+    pub at-rows : (k n v : ℕ) (d : A) → n < k → v < 2 ^ n → getD (rows k) (dataBit n v) d ≡ f n v
+    at-rows zero n v d h l = absurd (not-suc-le-zero h)
+    at-rows (suc k) n v d h l =
+        ap (λ (l : List A). getD l (dataBit n v) d) (rows-suc k)
+        ∙ ⊎-elim
+        (λ e.
+        let i : dataBit n v ≡ length (rows k) + v = let p = length-rows k in let q = ap (2 ^_) e in omega arith in
+        ap (λ (x : ℕ). getD (rows k ++ row k) x d) i
+        ∙ getD-append-add (rows k) (row k) v d
+        ∙ at-upTo (f k) (2 ^ k) v d (subst (λ (x : ℕ). v < 2 ^ x) e l)
+        ∙ ap (λ (x : ℕ). f x v) (sym e))
+        (λ m.
+        List·getD-append (rows k) (row k) d (dataBit n v) (let p = length-rows k in let q = pow-mono m in let r = pow-succ' 2 n in omega arith)
+        ∙ at-rows k n v d m l)
+        (eq-or-lt-of-le (le-of-suc-le-suc h))
+
+  -- what passes at the c-th is kept after what is kept before it
+  pub keep-rank : (t : A → Bool) (xs : List A) (c : ℕ) (d : A) → c < length xs → t (getD xs c d) ≡ true
+      → (length (keep t (take c xs)) < length (keep t xs)) × (getD (keep t xs) (length (keep t (take c xs))) d ≡ getD xs c d)
+  keep-rank t [] c d h e = absurd (not-suc-le-zero h)
+  keep-rank t (x ∷ xs) zero d h e = rw e (omega arith, refl)
+  keep-rank t (x ∷ xs) (suc c) d h e = go (t x) (keep-rank t xs c d (le-of-suc-le-suc h) e)
+    where
+      go : (b : Bool) → (length (keep t (take c xs)) < length (keep t xs)) × (getD (keep t xs) (length (keep t (take c xs))) d ≡ getD xs c d)
+          → (length (if b then x ∷ keep t (take c xs) else keep t (take c xs)) < length (if b then x ∷ keep t xs else keep t xs))
+          × (getD (if b then x ∷ keep t xs else keep t xs) (length (if b then x ∷ keep t (take c xs) else keep t (take c xs))) d ≡ getD xs c d)
+      go true r = (omega arith, r .1)
+      go false r = r
+
+  pub keep-ext : (f g : A → Bool) → ((x : A) → f x ≡ g x) → (a : List A) → keep f a ≡ keep g a
+  keep-ext f g h [] = refl
+  keep-ext f g h (x ∷ a) = ap₂ (λ (b : Bool) (l : List A). if b then x ∷ l else l) (h x) (keep-ext f g h a)
+
+  pub keep-swap : (a b : A → Bool) (xs : List A) → keep a (keep b xs) ≡ keep b (keep a xs)
+  keep-swap a b [] = refl
+  keep-swap a b (x ∷ xs) = go (a x) (b x) refl refl (keep-swap a b xs)
+    where
+      go : (c d : Bool) → a x ≡ c → b x ≡ d → keep a (keep b xs) ≡ keep b (keep a xs)
+          → keep a (if d then x ∷ keep b xs else keep b xs) ≡ keep b (if c then x ∷ keep a xs else keep a xs)
+      go true true e f r = rw (e, f) (ap (x ∷_) r)
+      go true false e f r = rw f r
+      go false true e f r = rw e r
+      go false false e f r = r
+
+  -- what passes a stricter test is kept out of what passes a weaker one
+  pub keep-within : (a b : A → Bool) (xs : List A) → ((x : A) → a x ≡ true → b x ≡ true) → keep a (keep b xs) ≡ keep a xs
+  keep-within a b [] h = refl
+  keep-within a b (x ∷ xs) h =
+      split (a x) (λ e. rw (e, h x e, keep) (rw (e, keep) (ap (x ∷_) (keep-within a b xs h))))
+      (λ e. split (b x) (λ f. rw (e, f, keep) (rw (e, keep) (keep-within a b xs h))) (λ f. rw (e, f, keep) (keep-within a b xs h)))
+
+  -- a list has a member
+  abbrev pub full : List A → Bool
+  full [] = false
+  full (x ∷ xs) = true
+
+  -- some of a list passes exactly where something is kept
+  pub any-full : (t : A → Bool) (xs : List A) → any t xs ≡ full (keep t xs)
+  any-full t [] = refl
+  any-full t (x ∷ xs) = split (t x) (λ e. rw (e, keep)) (λ e. rw (e, keep) (any-full t xs))
