@@ -8,3 +8,4 @@ pub mod Layout
 pub mod Holds
 -- It looks at prefixes alone.
 pub mod Same
+pub mod Count
