@@ -9,3 +9,8 @@ pub mod Holds
 -- It looks at prefixes alone.
 pub mod Same
 pub mod Count
+-- It has no fault.
+pub mod NoFault
+pub mod Fit
+-- Where an entry stands in any pool, and its nodes level by level.
+pub mod Find
