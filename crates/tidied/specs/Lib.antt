@@ -14,3 +14,4 @@ pub mod NoFault
 pub mod Fit
 -- Where an entry stands in any pool, and its nodes level by level.
 pub mod Find
+pub mod Spots

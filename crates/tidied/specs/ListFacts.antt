@@ -1,6 +1,6 @@
 -- Facts on lists: what stands where, rows, and what is kept. Nothing here is about prefixes.
 use mathlib.Core.Path.{_≡_, refl, sym, ap, ap₂, _∙_, subst}
-use mathlib.Core.Bool.{Bool, true, false, not, _&&_, _||_}
+use mathlib.Core.Bool.{Bool, true, false, not, _&&_, _||_, or-true}
 use mathlib.Core.Logic.{⊎-elim}
 use mathlib.Core.List.{List, [], _∷_, _++_, map, append-assoc, append-nil}
 use Prim.Native.Nat.{ℕ, zero, suc, _+_, _-_, _*_, _/_, _%_, _^_, _≤_, _<_}
@@ -50,6 +50,29 @@ all-upTo (suc n) = all-append (all-imp (λ c h. omega arith) (all-upTo n)) (more
 pub length-upTo : (n : ℕ) → length (upTo n) ≡ n
 length-upTo zero = refl
 length-upTo (suc n) = omega (arith, length-append (upTo n) (n ∷ []), length-upTo n)
+
+-- a, a + 1, .. : m numbers
+abbrev pub run : ℕ → ℕ → List ℕ
+run a zero = []
+run a (suc m) = a ∷ run (suc a) m
+
+pub length-run : (a m : ℕ) → length (run a m) ≡ m
+length-run a zero = refl
+length-run a (suc m) = ap suc (length-run (suc a) m)
+
+pub run-append : (a m n : ℕ) → run a m ++ run (a + m) n ≡ run a (m + n)
+run-append a zero n = ap₂ run (add-zero a) (let e : n ≡ 0 + n = omega arith in e)
+run-append a (suc m) n =
+    let e : a + suc m ≡ suc a + m = omega arith in
+    let f : suc (m + n) ≡ suc m + n = omega arith in
+    ap (λ (x : ℕ). a ∷ (run (suc a) m ++ run x n)) e ∙ ap (a ∷_) (run-append (suc a) m n) ∙ ap (run a) f
+
+pub upTo-run : (n : ℕ) → upTo n ≡ run 0 n
+upTo-run zero = refl
+upTo-run (suc n) =
+    let e : 0 + n ≡ n = omega arith in
+    let f : n + 1 ≡ suc n = omega arith in
+    ap₂ (λ (l : List ℕ) (x : ℕ). l ++ (x ∷ [])) (upTo-run n) (sym e) ∙ run-append 0 n 1 ∙ ap (run 0) f
 
 module _ {A : Type 0} where
   -- the i-th of f 0, f 1, ..
@@ -114,6 +137,14 @@ module _ {A : Type 0} where
   pub keep-ext : (f g : A → Bool) → ((x : A) → f x ≡ g x) → (a : List A) → keep f a ≡ keep g a
   keep-ext f g h [] = refl
   keep-ext f g h (x ∷ a) = ap₂ (λ (b : Bool) (l : List A). if b then x ∷ l else l) (h x) (keep-ext f g h a)
+
+  pub length-keep : (t : A → Bool) (xs : List A) → length (keep t xs) ≤ length xs
+  length-keep t [] = omega arith
+  length-keep t (x ∷ xs) = split (t x) (λ e. rw (e, keep) (omega (arith, length-keep t xs))) (λ e. rw (e, keep) (omega (arith, length-keep t xs)))
+
+  pub any-imp : (f g : A → Bool) → ((x : A) → f x ≡ true → g x ≡ true) → (a : List A) → any f a ≡ true → any g a ≡ true
+  any-imp f g h [] e = e
+  any-imp f g h (x ∷ a) e = split (f x) (λ i. ap (_|| any g a) (h x i)) (λ i. ap (g x ||_) (any-imp f g h a (rw i at e)) ∙ or-true (g x))
 
   pub keep-swap : (a b : A → Bool) (xs : List A) → keep a (keep b xs) ≡ keep b (keep a xs)
   keep-swap a b [] = refl
