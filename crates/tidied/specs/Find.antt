@@ -33,7 +33,7 @@ samePlace (childPlace c) (dataPlace m u) = false
 samePlace (childPlace c) (childPlace d) = eqb c d
 
 -- a place as a node has it
-abbrev isPlace : Place → Bool
+abbrev pub isPlace : Place → Bool
 isPlace (dataPlace n v) = ltb n 5 && ltb v (2 ^ n)
 isPlace (childPlace c) = ltb c 32
 
@@ -61,9 +61,9 @@ every-upTo f (suc n) i h l =
 abbrev once : Place → Bool
 once y = eqb (length (keep (samePlace y) places)) 1
 
-are-places : every isPlace places ≡ true
+pub are-places : All (λ x. isPlace x ≡ true) places
 unfolding places
-are-places = refl
+are-places = every-all isPlace places refl
 
 once-data : (n v : ℕ) → n < 5 → v < 2 ^ n → once (dataPlace n v) ≡ true
 unfolding places
@@ -87,7 +87,7 @@ module _ {B : Type 0} (g : Place → List B) (y : Place) (others : (x : Place) �
 
   only-at : once y ≡ true → each g places ≡ g y
   only-at h =
-      only-kept (every-all isPlace places are-places)
+      only-kept are-places
       ∙ only-one (keep (samePlace y) places) (all-imp (λ x t. place-says y x t) (all-kept (samePlace y) places)) (eqb-true (length (keep (samePlace y) places)) 1 h)
 
 keep-each : {A : Type 0} (t : Entry → Bool) (f : A → List Entry) (xs : List A) → keep t (each f xs) ≡ each (λ x. keep t (f x)) xs

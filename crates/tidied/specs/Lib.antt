@@ -15,3 +15,5 @@ pub mod Fit
 -- Where an entry stands in any pool, and its nodes level by level.
 pub mod Find
 pub mod Spots
+pub mod Reading
+pub mod Again

@@ -11,7 +11,7 @@ use lib.ListN.{length, getD, take, drop, length-append, List·getD-append, lengt
 use lib.Seq.{getD-append-add, getD-at, split-at}
 use Rattle.defs.specs.Basics.{if_then_else_, keep, any, each, upTo}
 use Rattle.defs.specs.Pool.{dataBit}
-use Rattle.defs.specs.Lemmas.{All, nil, more, split, not-both, all-append, all-imp, map-append, each-append}
+use Rattle.defs.specs.Lemmas.{All, nil, more, split, not-both, all-append, all-imp, map-append, map-map, map-on, each-append, each-on}
 
 module _ {A B : Type 0} where
   -- what f gives at the j-th stands after what it gives before
@@ -173,3 +173,21 @@ module _ {A : Type 0} where
   pub any-full : (t : A → Bool) (xs : List A) → any t xs ≡ full (keep t xs)
   any-full t [] = refl
   any-full t (x ∷ xs) = split (t x) (λ e. rw (e, keep)) (λ e. rw (e, keep) (any-full t xs))
+
+pub each-join : {A B : Type 0} (f : A → List B) (a : List A) → each f a ≡ each (λ l. l) (map f a)
+each-join f [] = refl
+each-join f (x ∷ a) = ap (f x ++_) (each-join f a)
+
+-- two tables of rows that agree
+pub map-rows : {A B C : Type 0} (F : A → C) (f : ℕ → ℕ → A) (G : B → C) (g : ℕ → ℕ → B) (k : ℕ)
+    → ((n v : ℕ) → n < k → v < 2 ^ n → F (f n v) ≡ G (g n v)) → map F (rows f k) ≡ map G (rows g k)
+map-rows F f G g k h =
+    map-each F (row f) (upTo k)
+    ∙ each-on (λ n. map F (row f n)) (λ n. map G (row g n)) one (all-upTo k)
+    ∙ sym (map-each G (row g) (upTo k))
+  where
+    one : (n : ℕ) → n < k → map F (row f n) ≡ map G (row g n)
+    one n l =
+        map-map F (f n) (upTo (2 ^ n))
+        ∙ map-on (λ v. F (f n v)) (λ v. G (g n v)) (λ v m. h n v l m) (all-upTo (2 ^ n))
+        ∙ sym (map-map G (g n) (upTo (2 ^ n)))

@@ -236,6 +236,15 @@ module _ (width : ℕ) (w : List ℕ) (ok : Formed width w) (most : width ≤ 64
       let p : Placed 13 rootSpot = (ok .some, ok .root, refl) in
       omega (arith, cover 12 1 (spotsUnder w rootSpot) (placed-under 12 rootSpot p) (first-level w (formed-laid width w ok)))
 
+  placed-levels : (k : ℕ) {ss : List Spot} → All (Placed k) ss → All (λ s. (s .node < nodeCount w) × (depth w (s .node) ≡ s .at .len)) (spotsFrom w k ss)
+  placed-levels zero h = nil
+  placed-levels (suc k) h = all-append (all-imp (λ s p. (p .0, p .1)) h) (placed-levels k (all-each (spotsUnder w) (placed-under k) h))
+
+  -- the depth of each is the length of its prefix
+  pub spots-placed : All (λ s. (s .node < nodeCount w) × (depth w (s .node) ≡ s .at .len)) (spots w)
+  unfolding innerSpots
+  spots-placed = more (ok .some, ok .root) (placed-levels 12 (placed-under 12 rootSpot (ok .some, ok .root, refl)))
+
   pub spots-all : ids (spots w) ≡ upTo (nodeCount w)
   spots-all = spots-run w (formed-laid width w ok) ∙ ap (run 0) spots-count ∙ sym (upTo-run (nodeCount w))
 

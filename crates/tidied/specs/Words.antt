@@ -8,7 +8,7 @@ use native.Mathlib.Omega.{arith}
 use native.Mathlib.Nat.{pow-succ', not-suc-le-zero, le-of-suc-le-suc, eq-or-lt-of-le}
 use lib.Dec.{eqb}
 use lib.Count.{onesIn}
-use lib.ListN.{length, getD, take}
+use lib.ListN.{length, getD, take, length-map}
 use lib.Seq.{take-all}
 use borrow.Author.Tests.{eqb-true, eqb-false}
 use Rattle.defs.specs.Basics.{if_then_else_, keep, upTo}
@@ -16,7 +16,7 @@ use Rattle.defs.specs.Pool.{bit, rank, ones}
 use Rattle.defs.specs.Tidy.{wordOf}
 use Rattle.defs.specs.Lemmas.{All, nil, more, all-map, all-true}
 use Rattle.bits.specs.WordLaws.{bit-zero, bit-suc, rank-zero}
-use Rattle.tidied.specs.ListFacts.{rows, row, rows-suc}
+use Rattle.tidied.specs.ListFacts.{rows, row, rows-suc, length-upTo, at-upTo}
 
 module _ {A : Type 0} (t : A → Bool) where
   word-half : (x : A) (xs : List A) → wordOf t (x ∷ xs) / 2 ≡ wordOf t xs
@@ -101,3 +101,13 @@ word-is t (x ∷ xs) d y h g =
     go : (b : Bool) → eqb (y % 2) 1 ≡ b → y / 2 ≡ wordOf t xs → y ≡ (if b then 1 else 0) + 2 * wordOf t xs
     go true e r = omega (arith, eqb-true (y % 2) 1 e)
     go false e r = let n = eqb-false (y % 2) 1 e in ⊎-elim (λ z. absurd (n z)) (λ z. omega arith) (eq-or-lt-of-le (let l : y % 2 ≤ 1 = omega arith in l))
+
+pub word-map : {A : Type 0} (t : A → Bool) (xs : List A) → wordOf t xs ≡ wordOf (λ b. b) (map t xs)
+word-map t [] = refl
+word-map t (x ∷ xs) = ap (λ (n : ℕ). (if t x then 1 else 0) + 2 * n) (word-map t xs)
+
+-- a word of m bits, by its bits
+pub word-bits : (m y : ℕ) → y < 2 ^ m → y ≡ wordOf (λ b. b) (map (λ b. bit b y) (upTo m))
+word-bits m y h =
+    let l : length (map (λ b. bit b y) (upTo m)) ≡ m = length-map (upTo m) (λ b. bit b y) ∙ length-upTo m in
+    word-is (λ b. b) (map (λ b. bit b y) (upTo m)) false y (rw l h) (λ b i. sym (at-upTo (λ b. bit b y) m b false (omega (arith, l))))
