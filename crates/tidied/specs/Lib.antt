@@ -17,3 +17,4 @@ pub mod Find
 pub mod Spots
 pub mod Reading
 pub mod Again
+pub mod Unique
