@@ -1,17 +1,16 @@
 -- The tidy pool's words are laid out as its bits say, and all its nodes are used: tidied again, its values are 0, 1, 2, ..
-use mathlib.Core.Path.{_≡_, refl, sym, ap, ap₂, _∙_, subst}
-use mathlib.Core.Bool.{Bool, true, false}
-use mathlib.Core.List.{List, [], _∷_, _++_, map, append-nil}
-use Prim.Native.Nat.{ℕ, zero, suc, _+_, _-_, _*_, _/_, _^_, _≤_, _<_}
+use mathlib.Core.Path.{_≡_, refl, sym, ap, _∙_, subst}
+use mathlib.Core.Bool.{true}
+use mathlib.Core.List.{List, [], _∷_, _++_, append-nil}
+use Prim.Native.Nat.{ℕ, zero, suc, _+_, _-_, _^_, _≤_, _<_}
 use native.Mathlib.Omega.{arith}
-use native.Mathlib.Nat.{zero-add}
 use lib.ListN.{length, getD, take, length-append, length-map}
 use lib.Seq.{take-suc, take-length}
 use Rattle.defs.specs.declared.Prefix.{Prefix}
-use Rattle.defs.specs.Basics.{if_then_else_, keep, each, upTo}
+use Rattle.defs.specs.Basics.{each, upTo}
 use Rattle.defs.specs.Prefix.{deeper, top}
-use Rattle.defs.specs.Pool.{nodeCount, dataOf, childOf, firstChild, firstValue, bit, rank, ones}
-use Rattle.defs.specs.Entries.{Entry, allEntries, view, prefixes}
+use Rattle.defs.specs.Pool.{nodeCount, dataOf, childOf, bit, ones}
+use Rattle.defs.specs.Entries.{Entry, allEntries, view}
 use Rattle.defs.specs.Tidy.{dataPrefixes, childPrefixes, isUnder, entriesIn, childrenOf, nodesOf, wordOf, tidyPool, tidyValues}
 use Rattle.defs.specs.Lemmas.{All, nil, more, split, all-imp, all-append, each-append}
 use Rattle.defs.specs.EntryLaws.{Sound, sound-all}
@@ -63,7 +62,7 @@ module _ (es : List Entry) (s : Sound top es) where
   children-before zero h = refl
   children-before (suc j) h = omega (arith, children-before j (omega arith), child-ones j h, one-more kids j h)
 
-  values-before : (j : ℕ) → j ≤ length N → valuesBefore pool j ≡ length (each ins (take j N))
+  pub values-before : (j : ℕ) → j ≤ length N → valuesBefore pool j ≡ length (each ins (take j N))
   values-before zero h = refl
   values-before (suc j) h = omega (arith, values-before j (omega arith), data-ones j h, one-more ins j h)
 

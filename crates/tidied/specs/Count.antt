@@ -1,8 +1,8 @@
 -- The nodes of the tidy pool hold each entry once: its value list is as long as the list of entries.
 use mathlib.Core.Path.{_≡_, refl, sym, ap, ap₂, _∙_, subst}
-use mathlib.Core.Bool.{Bool, true, false}
+use mathlib.Core.Bool.{Bool}
 use mathlib.Core.List.{List, [], _∷_, _++_, map, append-nil}
-use Prim.Native.Nat.{ℕ, zero, suc, _+_, _-_, _*_, _^_, _≤_, _<_}
+use Prim.Native.Nat.{ℕ, zero, suc, _+_, _-_, _*_, _^_, _≤_}
 use native.Mathlib.Omega.{arith}
 use lib.Dec.{ltb}
 use borrow.Author.Tests.{ltb-true, ltb-false}
@@ -12,7 +12,7 @@ use Rattle.defs.specs.Basics.{if_then_else_, keep, each, upTo}
 use Rattle.defs.specs.Prefix.{leads, deeper, top}
 use Rattle.defs.specs.Entries.{Entry, Place, dataPlace, childPlace, placesAt, places, under}
 use Rattle.defs.specs.Tidy.{dataPrefixes, childPrefixes, isUnder, entriesIn, childrenOf, nodesFrom, nodesOf, tidyValues}
-use Rattle.defs.specs.Lemmas.{All, nil, more, split, all-imp, all-map, all-true, all-keep, each-append}
+use Rattle.defs.specs.Lemmas.{All, nil, more, split, all-map, all-true, all-keep, each-append}
 use Rattle.defs.specs.PrefixLaws.{Whole, whole-top, whole-long}
 use Rattle.defs.specs.NodeLaws.{by-levels, deeper-low, deeper-high, deeper-none}
 use Rattle.defs.specs.EntryLaws.{Sound}

@@ -1,8 +1,8 @@
 -- Where an entry stands in a pool, whatever its words are: what has a place's prefix is what the place holds.
-use mathlib.Core.Path.{_≡_, refl, sym, ap, ap₂, _∙_, subst}
+use mathlib.Core.Path.{_≡_, refl, sym, ap, ap₂, _∙_}
 use mathlib.Core.Bool.{Bool, true, false, _&&_}
 use mathlib.Core.List.{List, [], _∷_, _++_, append-nil}
-use Prim.Native.Nat.{ℕ, zero, suc, _+_, _*_, _^_, _≤_, _<_}
+use Prim.Native.Nat.{ℕ, zero, suc, _+_, _^_, _≤_, _<_}
 use native.Mathlib.Omega.{arith}
 use native.Mathlib.Nat.{not-suc-le-zero}
 use lib.Dec.{ltb, eqb}
@@ -12,15 +12,15 @@ use mathlib.Core.Logic.{⊎-elim}
 use native.Mathlib.Nat.{le-of-suc-le-suc, eq-or-lt-of-le}
 use Rattle.defs.specs.declared.Prefix.{Prefix}
 use Rattle.defs.specs.Basics.{if_then_else_, keep, every, each, upTo}
-use Rattle.defs.specs.Prefix.{leads, same, deeper, top}
+use Rattle.defs.specs.Prefix.{leads, same, deeper}
 use Rattle.defs.specs.Pool.{dataOf, childOf, firstChild, firstValue, bit, rank, dataBit}
 use Rattle.defs.specs.Entries.{Entry, Place, dataPlace, childPlace, places, heldAt, entriesAt, allEntries, under, prefixes}
 use Rattle.defs.specs.Lemmas.{All, nil, more, split, not-both, is-false, and-left, and-right, all-imp, all-kept, all-unmap, keep-true, keep-false, keep-append}
 use Rattle.defs.specs.PrefixLaws.{Whole, leads-len, leads-self, leads-trans, same-self, same-says}
-use Rattle.defs.specs.NodeLaws.{Led, Fits}
-use Rattle.defs.specs.EntryLaws.{Sound, sound, sound-all, held-fits}
+use Rattle.defs.specs.NodeLaws.{Fits}
+use Rattle.defs.specs.EntryLaws.{sound, sound-all, held-fits}
 use Rattle.tidied.specs.ListFacts.{keep-within}
-use Rattle.tidied.specs.Halving.{onto, whole-deeper, leads-deeper, deeper-apart, under-none}
+use Rattle.tidied.specs.Halving.{onto, leads-deeper, deeper-apart, under-none}
 use Rattle.tidied.specs.Count.{Deep, deep-child}
 
 -- ---- places

@@ -1,16 +1,15 @@
 -- In a pool without a fault no entry is longer than the width.
-use mathlib.Core.Path.{_≡_, refl, sym, ap, _∙_, subst}
-use mathlib.Core.Bool.{Bool, true, false}
-use mathlib.Core.List.{List, [], _∷_, _++_}
+use mathlib.Core.Path.{_≡_, refl, ap, _∙_, subst}
+use mathlib.Core.List.{List}
 use Prim.Native.Nat.{ℕ, zero, suc, _+_, _*_, _^_, _≤_, _<_}
 use native.Mathlib.Omega.{arith}
 use native.Mathlib.Nat.{pow-succ'}
 use lib.Dec.{lit<}
 use Rattle.defs.specs.declared.Prefix.{Prefix}
-use Rattle.defs.specs.Basics.{if_then_else_, keep, each}
+use Rattle.defs.specs.Basics.{each}
 use Rattle.defs.specs.Prefix.{leads, deeper, top}
-use Rattle.defs.specs.Pool.{nodeCount, dataOf, childOf, firstChild, rank, bit, dataBit}
-use Rattle.defs.specs.Entries.{Entry, Place, dataPlace, childPlace, placesAt, places, heldAt, entriesAt, allEntries, view}
+use Rattle.defs.specs.Pool.{nodeCount, dataOf, childOf, bit, dataBit}
+use Rattle.defs.specs.Entries.{Entry, Place, dataPlace, childPlace, placesAt, places, heldAt, entriesAt, view}
 use Rattle.defs.specs.Check.{faultOf}
 use Rattle.defs.specs.Lemmas.{All, nil, more, split, all-append, all-keep, each-append}
 use Rattle.pool.specs.Sound.{Formed, formed, depth, child-node, data-length}

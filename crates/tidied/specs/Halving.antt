@@ -1,20 +1,20 @@
 -- A sorted list's entries below a prefix: the prefix itself, then those below its two halves.
-use mathlib.Core.Path.{_≡_, refl, sym, ap, ap₂, _∙_, subst}
-use mathlib.Core.Bool.{Bool, true, false, not, _&&_, _||_, or-true}
-use mathlib.Core.Logic.{_⊎_, inl, inr, ⊎-elim}
-use mathlib.Core.List.{List, [], _∷_, _++_, map, append-assoc}
-use Prim.Native.Nat.{ℕ, zero, suc, _+_, _-_, _*_, _/_, _%_, _^_, _≤_, _<_}
+use mathlib.Core.Path.{_≡_, refl, sym, ap, ap₂, _∙_}
+use mathlib.Core.Bool.{Bool, true, false, _||_, or-true}
+use mathlib.Core.Logic.{_⊎_, ⊎-elim}
+use mathlib.Core.List.{List, [], _∷_, _++_}
+use Prim.Native.Nat.{ℕ, suc, _+_, _-_, _*_, _/_, _%_, _^_, _≤_, _<_}
 use native.Mathlib.Omega.{arith}
-use native.Mathlib.Nat.{div-add-mod', mul-assoc, add-mul, eq-or-lt-of-le, eq-zero-or-pos}
+use native.Mathlib.Nat.{mul-assoc, add-mul, eq-or-lt-of-le, eq-zero-or-pos}
 use lib.Pow.{pow-pos, pow-add, shr-shr, high as pow-high}
 use Rattle.defs.specs.declared.Prefix.{Prefix}
-use Rattle.defs.specs.Basics.{if_then_else_, keep, any, each}
+use Rattle.defs.specs.Basics.{keep}
 use Rattle.defs.specs.Prefix.{first, leads, before, same, deeper, top}
 use Rattle.defs.specs.Entries.{Entry, under, prefixes}
-use Rattle.defs.specs.Lemmas.{All, nil, more, split, not-both, is-false, all-imp, all-unmap, keep-on, keep-true, keep-false}
-use Rattle.defs.specs.PrefixLaws.{Whole, cut, cut-at, low, high, leads-of, leads-len, leads-first, leads-self, leads-trans, leads-same, leads-low, leads-high, low-high, before-below, before-irrefl, before-asym, same-self, same-says, whole-low, whole-high, first-agree}
-use Rattle.defs.specs.OrderLaws.{Ascends, end, then-after}
-use Rattle.defs.specs.NodeLaws.{Real, Led}
+use Rattle.defs.specs.Lemmas.{All, split, not-both, is-false, all-imp, all-unmap, keep-on, keep-true, keep-false}
+use Rattle.defs.specs.PrefixLaws.{Whole, cut, cut-at, low, high, leads-of, leads-len, leads-first, leads-self, leads-trans, leads-same, leads-low, leads-high, low-high, before-below, before-irrefl, before-asym, same-self, same-says}
+use Rattle.defs.specs.OrderLaws.{Ascends, then-after}
+use Rattle.defs.specs.NodeLaws.{Real}
 use Rattle.defs.specs.EntryLaws.{Sound}
 
 -- two tests that pass together are equal

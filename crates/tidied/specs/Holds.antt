@@ -13,11 +13,11 @@ use Rattle.defs.specs.Basics.{if_then_else_, keep, each}
 use Rattle.defs.specs.Prefix.{leads, before, same, deeper, top}
 use Rattle.defs.specs.Pool.{dataOf, childOf, firstChild, firstValue, bit, rank, dataBit}
 use Rattle.defs.specs.Entries.{Entry, Place, dataPlace, childPlace, placesAt, places, heldAt, entriesAt, allEntries, under, view, prefixes}
-use Rattle.defs.specs.Tidy.{dataPrefixes, childPrefixes, isUnder, entriesIn, childrenOf, nodesOf, wordOf, tidyPool, tidyValues}
-use Rattle.defs.specs.Lemmas.{All, nil, more, split, not-both, is-false, all-imp, all-unmap, keep-false, map-append}
-use Rattle.defs.specs.PrefixLaws.{Whole, whole-top, low, high, before-irrefl, same-says}
+use Rattle.defs.specs.Tidy.{dataPrefixes, childPrefixes, isUnder, entriesIn, childrenOf, nodesOf, tidyPool, tidyValues}
+use Rattle.defs.specs.Lemmas.{split, not-both, all-imp, all-unmap, keep-false, map-append}
+use Rattle.defs.specs.PrefixLaws.{Whole, whole-top, before-irrefl, same-says}
 use Rattle.defs.specs.OrderLaws.{Ascends, end, then-after}
-use Rattle.defs.specs.NodeLaws.{Fits, deeper-low, deeper-high, deeper-none, by-levels, tree, halves, tree-step, tree-last}
+use Rattle.defs.specs.NodeLaws.{Fits, deeper-low, deeper-high, deeper-none, by-levels, tree-step, tree-last}
 use Rattle.defs.specs.EntryLaws.{Sound, sound, sound-all, sound-under, held-fits}
 use Rattle.tidied.specs.ListFacts.{full, any-full, each-at, keep-rank}
 use Rattle.tidied.specs.Words.{word-bit, word-rank}

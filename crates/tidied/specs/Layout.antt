@@ -1,7 +1,7 @@
 -- Where things stand in the tidy pool: the words of its nodes, and the children of its nodes.
-use mathlib.Core.Path.{_≡_, refl, sym, ap, ap₂, _∙_, subst}
-use mathlib.Core.Bool.{Bool, true, false}
-use mathlib.Core.List.{List, [], _∷_, _++_, map, append-assoc, append-nil}
+use mathlib.Core.Path.{_≡_, refl, sym, ap, _∙_}
+use mathlib.Core.Bool.{Bool, true}
+use mathlib.Core.List.{List, [], _∷_, _++_}
 use Prim.Native.Nat.{ℕ, zero, suc, _+_, _-_, _*_, _^_, _≤_, _<_}
 use native.Mathlib.Omega.{arith}
 use native.Mathlib.Nat.{pow-succ', not-suc-le-zero, le-of-suc-le-suc}
@@ -9,12 +9,12 @@ use lib.Pow.{pow-mono}
 use lib.ListN.{length, getD, take, drop, length-append, List·getD-append}
 use lib.Seq.{getD-append-add}
 use Rattle.defs.specs.declared.Prefix.{Prefix}
-use Rattle.defs.specs.Basics.{if_then_else_, keep, each, upTo}
+use Rattle.defs.specs.Basics.{each, upTo}
 use Rattle.defs.specs.Prefix.{deeper, top}
 use Rattle.defs.specs.Pool.{dataOf, childOf, firstChild, firstValue, dataBit}
-use Rattle.defs.specs.Entries.{Entry, under}
+use Rattle.defs.specs.Entries.{Entry}
 use Rattle.defs.specs.Lists.{isIn}
-use Rattle.defs.specs.Tidy.{dataPrefixes, childPrefixes, isUnder, entriesIn, childrenOf, nodesFrom, nodesOf, wordOf, poolFrom, tidyPool}
+use Rattle.defs.specs.Tidy.{dataPrefixes, childPrefixes, isUnder, entriesIn, childrenOf, nodesFrom, nodesOf, wordOf, poolFrom}
 use Rattle.defs.specs.Lemmas.{All, nil, more, all-imp, all-append, all-map, all-true, all-keep, all-kept, keep-false, each-append}
 use Rattle.defs.specs.EntryLaws.{Sound}
 use Rattle.tidied.specs.ListFacts.{full, any-full, each-at, each-none, all-each, at-upTo, at-rows}

@@ -18,3 +18,6 @@ pub mod Spots
 pub mod Reading
 pub mod Again
 pub mod Unique
+pub mod Small
+-- What tidying promises.
+pub mod Demand3

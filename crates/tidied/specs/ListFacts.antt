@@ -1,17 +1,17 @@
 -- Facts on lists: what stands where, rows, and what is kept. Nothing here is about prefixes.
 use mathlib.Core.Path.{_≡_, refl, sym, ap, ap₂, _∙_, subst}
-use mathlib.Core.Bool.{Bool, true, false, not, _&&_, _||_, or-true}
+use mathlib.Core.Bool.{Bool, true, false, _||_, or-true}
 use mathlib.Core.Logic.{⊎-elim}
-use mathlib.Core.List.{List, [], _∷_, _++_, map, append-assoc, append-nil}
-use Prim.Native.Nat.{ℕ, zero, suc, _+_, _-_, _*_, _/_, _%_, _^_, _≤_, _<_}
+use mathlib.Core.List.{List, [], _∷_, _++_, map, append-nil}
+use Prim.Native.Nat.{ℕ, zero, suc, _+_, _-_, _^_, _≤_, _<_}
 use native.Mathlib.Omega.{arith}
-use native.Mathlib.Nat.{pow-succ', not-suc-le-zero, le-of-suc-le-suc, eq-or-lt-of-le, add-zero, add-assoc}
+use native.Mathlib.Nat.{pow-succ', not-suc-le-zero, le-of-suc-le-suc, eq-or-lt-of-le, add-zero}
 use lib.Pow.{pow-mono}
 use lib.ListN.{length, getD, take, drop, length-append, List·getD-append, length-map}
 use lib.Seq.{getD-append-add, getD-at, split-at}
 use Rattle.defs.specs.Basics.{if_then_else_, keep, any, each, upTo}
 use Rattle.defs.specs.Pool.{dataBit}
-use Rattle.defs.specs.Lemmas.{All, nil, more, split, not-both, all-append, all-imp, map-append, map-map, map-on, each-append, each-on}
+use Rattle.defs.specs.Lemmas.{All, nil, more, split, all-append, all-imp, map-append, map-map, map-on, each-append, each-on}
 
 module _ {A B : Type 0} where
   -- what f gives at the j-th stands after what it gives before
@@ -137,6 +137,11 @@ module _ {A : Type 0} where
   pub keep-ext : (f g : A → Bool) → ((x : A) → f x ≡ g x) → (a : List A) → keep f a ≡ keep g a
   keep-ext f g h [] = refl
   keep-ext f g h (x ∷ a) = ap₂ (λ (b : Bool) (l : List A). if b then x ∷ l else l) (h x) (keep-ext f g h a)
+
+  pub all-at : {P : A → Type 0} {l : List A} → All P l → (i : ℕ) (d : A) → i < length l → P (getD l i d)
+  all-at nil i d h = absurd (not-suc-le-zero h)
+  all-at (more p ps) zero d h = p
+  all-at (more p ps) (suc i) d h = all-at ps i d (le-of-suc-le-suc h)
 
   pub length-keep : (t : A → Bool) (xs : List A) → length (keep t xs) ≤ length xs
   length-keep t [] = omega arith

@@ -1,6 +1,6 @@
 -- The tidy pool has no fault, where no entry is longer than the width and there are not too many nodes.
 use mathlib.Core.Path.{_≡_, refl, sym, ap, ap₂, _∙_, subst}
-use mathlib.Core.Bool.{Bool, true, false, not, _&&_, _||_}
+use mathlib.Core.Bool.{true, false, _&&_}
 use mathlib.Core.List.{List, [], _∷_, _++_, map, append-assoc, append-nil}
 use Prim.Native.Nat.{ℕ, zero, suc, _+_, _-_, _*_, _/_, _%_, _^_, _≤_, _<_, min}
 use native.Mathlib.Omega.{arith}
@@ -10,7 +10,7 @@ use borrow.Author.Tests.{lt-leb, eq-eqb, ne-eqb, le-ltb, leb-true}
 use lib.ListN.{length, getD, take, replicate, length-append}
 use lib.Seq.{getD-append-seam, take-append-seam}
 use Rattle.defs.specs.declared.Prefix.{Prefix}
-use Rattle.defs.specs.Basics.{if_then_else_, keep, any, each}
+use Rattle.defs.specs.Basics.{if_then_else_, each}
 use Rattle.defs.specs.Prefix.{leads, same, deeper, top}
 use Rattle.defs.specs.Pool.{nodeCount, dataOf, childOf, firstChild, firstValue, ones}
 use Rattle.defs.specs.Entries.{Entry}

@@ -1,25 +1,24 @@
 -- What the words of a node say of a pool's entries: its data word, and the values of its entries.
-use mathlib.Core.Path.{_≡_, refl, sym, ap, ap₂, _∙_, subst}
-use mathlib.Core.Bool.{Bool, true, false}
+use mathlib.Core.Path.{_≡_, refl, sym, ap, ap₂, _∙_}
+use mathlib.Core.Bool.{true}
 use mathlib.Core.List.{List, [], _∷_, _++_, map}
-use Prim.Native.Nat.{ℕ, zero, suc, _+_, _-_, _*_, _^_, _≤_, _<_}
+use Prim.Native.Nat.{ℕ, suc, _+_, _-_, _^_, _≤_, _<_}
 use native.Mathlib.Omega.{arith}
 use lib.ListN.{length, length-append, length-map}
 use Rattle.defs.specs.declared.Prefix.{Prefix}
-use Rattle.defs.specs.Basics.{if_then_else_, keep, each, upTo}
+use Rattle.defs.specs.Basics.{if_then_else_, each, upTo}
 use Rattle.defs.specs.Prefix.{same, deeper, top}
 use Rattle.defs.specs.Pool.{nodeCount, dataOf, firstValue, bit, rank, ones, dataBit}
-use Rattle.defs.specs.Entries.{Entry, allEntries, under, view}
-use Rattle.defs.specs.Tidy.{dataPrefixes, isUnder, entriesIn, nodesOf, wordOf, tidyValues}
-use Rattle.defs.specs.Lemmas.{All, nil, more, split, keep-true}
+use Rattle.defs.specs.Entries.{Entry, allEntries, view}
+use Rattle.defs.specs.Tidy.{dataPrefixes, entriesIn, nodesOf, wordOf, tidyValues}
+use Rattle.defs.specs.Lemmas.{All, more, split, keep-true}
 use Rattle.defs.specs.EntryLaws.{sound-all}
 use Rattle.bits.specs.WordLaws.{rank-all}
 use Rattle.pool.specs.Sound.{valuesBefore}
-use Rattle.tidied.specs.ListFacts.{full, any-full, rows, run, length-run, run-append, upTo-run, map-each, each-map, each-join, map-rows}
-use Rattle.tidied.specs.Words.{word-map, word-bits, ones-word}
+use Rattle.tidied.specs.ListFacts.{full, any-full, run, length-run, run-append, upTo-run, map-each, each-map, each-join, map-rows}
+use Rattle.tidied.specs.Words.{word-map, word-bits}
 use Rattle.tidied.specs.Halving.{onto, under-top}
-use Rattle.tidied.specs.Layout.{isHere, data-count}
-use Rattle.tidied.specs.Holds.{view-sound}
+use Rattle.tidied.specs.Layout.{isHere}
 use Rattle.tidied.specs.Count.{values-count}
 use Rattle.tidied.specs.Find.{Seen, seen-data}
 use Rattle.tidied.specs.Spots.{Spot, ids, spots, innerSpots, used, nodes-spots, rank-run, Laid, SeenSome, spots-run, spots-fit, spots-seen}

@@ -1,23 +1,23 @@
 -- The tidy pool looks at prefixes alone: two views have one tidy pool exactly where they have the same prefixes.
-use mathlib.Core.Path.{_≡_, refl, sym, ap, ap₂, _∙_, subst}
-use mathlib.Core.Bool.{Bool, true, false, _&&_, _||_, or-true}
+use mathlib.Core.Path.{_≡_, refl, sym, ap, _∙_}
+use mathlib.Core.Bool.{Bool, true, _||_, or-true}
 use mathlib.Core.List.{List, [], _∷_, _++_, map}
 use Prim.Native.Nat.{ℕ, zero, suc, _+_}
 use lib.ListN.{length, length-map}
 use Rattle.defs.specs.declared.Prefix.{Prefix}
-use Rattle.defs.specs.Basics.{if_then_else_, keep, any, every, each}
+use Rattle.defs.specs.Basics.{keep, any, every, each}
 use Rattle.defs.specs.Prefix.{leads, same, top}
 use Rattle.defs.specs.Entries.{Entry, allEntries, view, prefixes}
 use Rattle.defs.specs.Lists.{isIn, sameKeys}
 use Rattle.defs.specs.Tidy.{dataPrefixes, childPrefixes, isUnder, entriesIn, childrenOf, nodesFrom, nodesOf, wordOf, poolFrom, tidyPool, tidyValues}
 use Rattle.defs.specs.Lemmas.{All, nil, more, split, not-both, and-left, and-right, all-imp, keep-map, map-map}
 use Rattle.defs.specs.PrefixLaws.{same-self, same-says}
-use Rattle.defs.specs.OrderLaws.{Ascends, among, ascends-unique}
+use Rattle.defs.specs.OrderLaws.{Ascends, ascends-unique}
 use Rattle.defs.specs.EntryLaws.{Sound, sound-all}
 use Rattle.tidied.specs.ListFacts.{any-map, map-each, each-ext, keep-ext}
 use Rattle.tidied.specs.Words.{word-ext}
 use Rattle.tidied.specs.Halving.{both-ways, onto, under-top}
-use Rattle.tidied.specs.Holds.{through, holds-all, view-sound}
+use Rattle.tidied.specs.Holds.{through, holds-all}
 
 module _ (es fs : List Entry) (h : prefixes es ≡ prefixes fs) where
   pub here-same : (q : Prefix) → isIn q es ≡ isIn q fs

@@ -6,19 +6,19 @@ use Prim.Native.Nat.{ℕ, zero, suc, _+_, _-_, _*_, _/_, _%_, _^_, _≤_, _<_}
 use native.Mathlib.Decide.{le-ind}
 use native.Mathlib.Omega.{arith}
 use native.Mathlib.Nat.{le-refl, add-zero}
-use lib.Dec.{ltb, eqb}
+use lib.Dec.{ltb}
 use borrow.Author.Tests.{ltb-true, ltb-false, eqb-true, eqb-false}
 use lib.Count.{onesIn}
 use lib.ListN.{length, length-append, length-map}
 use Rattle.defs.specs.declared.Prefix.{Prefix}
-use Rattle.defs.specs.Basics.{if_then_else_, keep, any, each, upTo}
+use Rattle.defs.specs.Basics.{if_then_else_, keep, each, upTo}
 use Rattle.defs.specs.Prefix.{leads, deeper, top}
 use Rattle.defs.specs.Pool.{nodeCount, dataOf, childOf, firstChild, firstValue, bit, rank, ones}
-use Rattle.defs.specs.Entries.{Entry, entriesAt, allEntries, under, view}
+use Rattle.defs.specs.Entries.{Entry, allEntries, under, view}
 use Rattle.defs.specs.Tidy.{childPrefixes, isUnder, childrenOf, nodesFrom, nodesOf}
 use Rattle.defs.specs.Lemmas.{All, nil, more, split, not-both, is-false, all-append, all-imp, keep-append, keep-false, map-append, each-append}
 use Rattle.defs.specs.PrefixLaws.{whole-top, leads-trans}
-use Rattle.defs.specs.EntryLaws.{Sound, sound-all}
+use Rattle.defs.specs.EntryLaws.{sound-all}
 use Rattle.bits.specs.WordLaws.{rank-suc}
 use Rattle.pool.specs.Sound.{Formed, childrenBefore, valuesBefore, depth, depth-60, data-small, children-all, child-node}
 use Rattle.tidied.specs.ListFacts.{run, length-run, run-append, upTo-run, length-keep, any-imp, any-full, full, keep-swap, each-ext, all-each, all-upTo, map-each}

@@ -1,29 +1,29 @@
 -- There is only one tidy pool: a pool without a fault, with no node but the root unused, is its own tidy pool.
 use mathlib.Core.Path.{_≡_, refl, sym, ap, ap₂, _∙_, subst}
-use mathlib.Core.Bool.{Bool, true, false}
-use mathlib.Core.List.{List, [], _∷_, _++_, map}
-use Prim.Native.Nat.{ℕ, zero, suc, _+_, _-_, _*_, _/_, _^_, _≤_, _<_}
+use mathlib.Core.Bool.{true}
+use mathlib.Core.List.{List, [], _∷_, map}
+use Prim.Native.Nat.{ℕ, zero, suc, _+_, _-_, _*_, _^_, _≤_, _<_}
 use native.Mathlib.Omega.{arith}
 use native.Mathlib.Nat.{le-refl}
 use lib.Dec.{lit<}
 use borrow.Author.Tests.{ltb-true}
-use lib.ListN.{length, getD, drop, length-map, drop-of-length-le}
+use lib.ListN.{length, getD, drop, drop-of-length-le}
 use lib.Seq.{drop-cons}
 use Rattle.defs.specs.declared.Prefix.{Prefix}
-use Rattle.defs.specs.Basics.{if_then_else_, keep, each, upTo}
+use Rattle.defs.specs.Basics.{upTo}
 use Rattle.defs.specs.Prefix.{leads, deeper, top}
-use Rattle.defs.specs.Pool.{nodeCount, dataOf, childOf, firstChild, firstValue, bit, rank, ones, dataBit}
-use Rattle.defs.specs.Entries.{Entry, Place, dataPlace, childPlace, places, heldAt, entriesAt, allEntries, under, view, prefixes}
-use Rattle.defs.specs.Tidy.{dataPrefixes, childPrefixes, isUnder, entriesIn, childrenOf, nodesOf, wordOf, poolFrom, tidyPool}
+use Rattle.defs.specs.Pool.{nodeCount, dataOf, childOf, bit, ones, dataBit}
+use Rattle.defs.specs.Entries.{Entry, Place, dataPlace, childPlace, places, heldAt, entriesAt, allEntries}
+use Rattle.defs.specs.Tidy.{childPrefixes, isUnder, entriesIn, childrenOf, wordOf, poolFrom, tidyPool}
 use Rattle.defs.specs.Lemmas.{All, nil, more, split, all-imp, all-both, all-unmap, map-map, map-on, each-on}
 use Rattle.defs.specs.EntryLaws.{sound-all}
 use Rattle.pool.specs.Sound.{Formed, childrenBefore, valuesBefore, depth, depth-60, child-node, data-small}
 use Rattle.tidied.specs.ListFacts.{full, any-full, run, all-upTo, map-each}
 use Rattle.tidied.specs.Words.{word-map, word-bits, ones-word}
 use Rattle.tidied.specs.Halving.{under-top}
-use Rattle.tidied.specs.Layout.{isHere, child-count}
+use Rattle.tidied.specs.Layout.{child-count}
 use Rattle.tidied.specs.Find.{isPlace, are-places, Seen, seen-child}
-use Rattle.tidied.specs.Spots.{Spot, ids, spots, innerSpots, used, Laid, formed-laid, SeenSome, spots-run, spots-count, spots-placed, spots-seen}
+use Rattle.tidied.specs.Spots.{Spot, ids, spots, innerSpots, used, formed-laid, SeenSome, spots-run, spots-count, spots-placed, spots-seen}
 use Rattle.tidied.specs.Reading.{data-word, in-count, nodes-all}
 
 -- a list that is not empty has a member
@@ -58,11 +58,11 @@ four-words w b h =
     (one (b + 2) (b + 3) (omega arith) (omega arith) ∙ ap (getD w (b + 2) 0 ∷_) (one (b + 3) (b + 4) (omega arith) (omega arith))))
 
 module _ (width : ℕ) (w : List ℕ) (most : width ≤ 64) (ok : Formed width w) where
-  abbrev valuesOf : List Entry → List ℕ
+  abbrev pub valuesOf : List Entry → List ℕ
   valuesOf = map (λ e. e .value)
 
   -- the values in a node and below it do not hang on its prefix, nor on the number of levels, if they are enough
-  abbrev Alike : ℕ → ℕ → Type 0
+  abbrev pub Alike : ℕ → ℕ → Type 0
   Alike l m = (i : ℕ) (p q : Prefix) → i < nodeCount w → 65 ≤ depth w i + 5 * l → 65 ≤ depth w i + 5 * m → valuesOf (entriesAt w l i p) ≡ valuesOf (entriesAt w m i q)
 
   place-alike : (l m : ℕ) → Alike l m → (i : ℕ) (p q : Prefix) → i < nodeCount w → 65 ≤ depth w i + 5 * suc l → 65 ≤ depth w i + 5 * suc m
@@ -73,7 +73,7 @@ module _ (width : ℕ) (w : List ℕ) (most : width ≤ 64) (ok : Formed width w
       (λ s. let k = child-node width w ok i c h (ltb-true c 32 t) s in rw s (ih _ (deeper p 5 c) (deeper q 5 c) (k .0) (omega (arith, k .2)) (omega (arith, k .2))))
       (λ s. rw s)
 
-  alike : (l m : ℕ) → Alike l m
+  pub alike : (l m : ℕ) → Alike l m
   alike zero m i p q h a b = absurd (let z : ⊥ = omega (arith, depth-60 width w most ok i h) in z)
   alike (suc l) zero i p q h a b = absurd (let z : ⊥ = omega (arith, depth-60 width w most ok i h) in z)
   alike (suc l) (suc m) i p q h a b =

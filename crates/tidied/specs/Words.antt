@@ -1,6 +1,6 @@
 -- A word made of tests: its bits, and the ones below a bit.
 use mathlib.Core.Path.{_≡_, refl, sym, ap, ap₂, _∙_, subst}
-use mathlib.Core.Bool.{Bool, true, false, not}
+use mathlib.Core.Bool.{Bool, true, false}
 use mathlib.Core.Logic.{⊎-elim}
 use mathlib.Core.List.{List, [], _∷_, _++_, map}
 use Prim.Native.Nat.{ℕ, zero, suc, _+_, _-_, _*_, _/_, _%_, _^_, _≤_, _<_}
@@ -16,7 +16,7 @@ use Rattle.defs.specs.Pool.{bit, rank, ones}
 use Rattle.defs.specs.Tidy.{wordOf}
 use Rattle.defs.specs.Lemmas.{All, nil, more, all-map, all-true}
 use Rattle.bits.specs.WordLaws.{bit-zero, bit-suc, rank-zero}
-use Rattle.tidied.specs.ListFacts.{rows, row, rows-suc, length-upTo, at-upTo}
+use Rattle.tidied.specs.ListFacts.{rows, rows-suc, length-upTo, at-upTo}
 
 module _ {A : Type 0} (t : A → Bool) where
   word-half : (x : A) (xs : List A) → wordOf t (x ∷ xs) / 2 ≡ wordOf t xs
