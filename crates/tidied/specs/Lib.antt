@@ -19,5 +19,7 @@ pub mod Reading
 pub mod Again
 pub mod Unique
 pub mod Small
+-- What a tidier can rest on: the source pool, node by node.
+pub mod Source
 -- What tidying promises.
 pub mod Demand3

@@ -7,8 +7,8 @@ use Prim.Native.Nat.{ℕ, zero, suc, _+_, _-_, _^_, _≤_, _<_}
 use native.Mathlib.Omega.{arith}
 use native.Mathlib.Nat.{pow-succ', not-suc-le-zero, le-of-suc-le-suc, eq-or-lt-of-le, add-zero}
 use lib.Pow.{pow-mono}
-use lib.ListN.{length, getD, take, drop, length-append, List·getD-append, length-map}
-use lib.Seq.{getD-append-add, getD-at, split-at}
+use lib.ListN.{length, getD, take, drop, length-append, List·getD-append, length-map, drop-of-length-le}
+use lib.Seq.{getD-append-add, getD-at, split-at, drop-cons}
 use Rattle.defs.specs.Basics.{if_then_else_, keep, any, each, upTo}
 use Rattle.defs.specs.Pool.{dataBit}
 use Rattle.defs.specs.Lemmas.{All, nil, more, split, all-append, all-imp, map-append, map-map, map-on, each-append, each-on}
@@ -66,6 +66,11 @@ run-append a (suc m) n =
     let e : a + suc m ≡ suc a + m = omega arith in
     let f : suc (m + n) ≡ suc m + n = omega arith in
     ap (λ (x : ℕ). a ∷ (run (suc a) m ++ run x n)) e ∙ ap (a ∷_) (run-append (suc a) m n) ∙ ap (run a) f
+
+pub at-run : (a m i d : ℕ) → i < m → getD (run a m) i d ≡ a + i
+at-run a zero i d h = absurd (not-suc-le-zero h)
+at-run a (suc m) zero d h = sym (add-zero a)
+at-run a (suc m) (suc i) d h = at-run (suc a) m i d (le-of-suc-le-suc h) ∙ omega arith
 
 pub upTo-run : (n : ℕ) → upTo n ≡ run 0 n
 upTo-run zero = refl
@@ -143,6 +148,15 @@ module _ {A : Type 0} where
   all-at (more p ps) zero d h = p
   all-at (more p ps) (suc i) d h = all-at ps i d (le-of-suc-le-suc h)
 
+  -- P holds of each of a list if it does at each index
+  pub all-by : {P : A → Type 0} (l : List A) (d : A) → ((i : ℕ) → i < length l → P (getD l i d)) → All P l
+  all-by [] d h = nil
+  all-by (x ∷ l) d h = more (h 0 (omega arith)) (all-by l d (λ i k. h (suc i) (omega arith)))
+
+  pub all-front : {P : A → Type 0} (a b : List A) → All P (a ++ b) → All P a × All P b
+  all-front [] b h = (nil, h)
+  all-front (x ∷ a) b (more h hs) = let r = all-front a b hs in (more h (r .0), r .1)
+
   pub length-keep : (t : A → Bool) (xs : List A) → length (keep t xs) ≤ length xs
   length-keep t [] = omega arith
   length-keep t (x ∷ xs) = split (t x) (λ e. rw (e, keep) (omega (arith, length-keep t xs))) (λ e. rw (e, keep) (omega (arith, length-keep t xs)))
@@ -196,3 +210,12 @@ map-rows F f G g k h =
         map-map F (f n) (upTo (2 ^ n))
         ∙ map-on (λ v. F (f n v)) (λ v. G (g n v)) (λ v m. h n v l m) (all-upTo (2 ^ n))
         ∙ sym (map-map G (g n) (upTo (2 ^ n)))
+
+pub all-uneach : {A B : Type 0} {P : B → Type 0} (f : A → List B) (xs : List A) → All P (each f xs) → All (λ x. All P (f x)) xs
+all-uneach f [] h = nil
+all-uneach f (x ∷ xs) h = let r = all-front (f x) (each f xs) h in more (r .0) (all-uneach f xs (r .1))
+
+-- the rest of a list by its indices
+pub drop-run : {A : Type 0} (l : List A) (d : A) (a m : ℕ) → a + m ≡ length l → drop a l ≡ map (λ i. getD l i d) (run a m)
+drop-run l d a zero h = drop-of-length-le l (let k : length l ≤ a = omega arith in k)
+drop-run l d a (suc m) h = drop-cons l a d (omega arith) ∙ ap (getD l a d ∷_) (drop-run l d (suc a) m (omega arith))

@@ -248,6 +248,24 @@ module _ (width : ℕ) (w : List ℕ) (ok : Formed width w) (most : width ≤ 64
   pub spots-all : ids (spots w) ≡ upTo (nodeCount w)
   spots-all = spots-run w (formed-laid width w ok) ∙ ap (run 0) spots-count ∙ sym (upTo-run (nodeCount w))
 
+  -- the children of a level are the nodes of the next
+  spots-next : (k : ℕ) (ss : List Spot) → each (spotsUnder w) (spotsFrom w k ss) ≡ spotsFrom w k (each (spotsUnder w) ss)
+  spots-next zero ss = refl
+  spots-next (suc k) ss =
+      each-append (spotsUnder w) ss (spotsFrom w k (each (spotsUnder w) ss)) ∙ ap (each (spotsUnder w) ss ++_) (spots-next k (each (spotsUnder w) ss))
+
+  spots-stop : (k : ℕ) (ss : List Spot) → All (Placed k) ss → spotsFrom w (suc k) ss ≡ spotsFrom w k ss
+  spots-stop zero [] h = refl
+  spots-stop zero (s ∷ ss) (more p h) = absurd (let z : ⊥ = omega (arith, depth-60 width w most ok (s .node) (p .0), p .1, p .2) in z)
+  spots-stop (suc k) ss h = ap (ss ++_) (spots-stop k (each (spotsUnder w) ss) (all-each (spotsUnder w) (placed-under k) h))
+
+  -- every node but the root is the child of a node
+  pub spots-fix : innerSpots w ≡ each (spotsUnder w) (spots w)
+  unfolding innerSpots
+  spots-fix =
+      sym (spots-stop 12 (spotsUnder w rootSpot) (placed-under 12 rootSpot (ok .some, ok .root, refl)))
+      ∙ ap (spotsUnder w rootSpot ++_) (sym (spots-next 12 (spotsUnder w rootSpot)))
+
 -- ---- what they hold
 module _ (w : List ℕ) where
   abbrev pub SeenAt : ℕ → Spot → Type 0
