@@ -76,7 +76,7 @@ module _ (es : List Entry) (s : Sound top es) where
       (sym (under-none es s (deeper p 5 (2 * v)) (omega arith))) (sym (under-none es s (deeper p 5 (2 * v + 1)) (omega arith))))
 
   -- what is below a node: its own entries, and what is below its children
-  under-count : (p : Prefix) → Whole p → p .len ≤ 60
+  pub under-count : (p : Prefix) → Whole p → p .len ≤ 60
       → length (under p es) ≡ length (entriesIn es p) + length (each (λ q. under q es) (childPrefixes p))
   unfolding places dataPlaces childPlaces dataPrefixes childPrefixes
   under-count p u small =

@@ -51,7 +51,7 @@ every-join : {A : Type 0} (f : A → Bool) (a : List A) (x : A) → every f (a +
 every-join f [] x h = (refl, and-left _ _ h)
 every-join f (y ∷ a) x h = let r = every-join f a x (and-right (f y) _ h) in (ap₂ _&&_ (and-left (f y) _ h) (r .0), r .1)
 
-every-upTo : (f : ℕ → Bool) (n i : ℕ) → every f (upTo n) ≡ true → i < n → f i ≡ true
+pub every-upTo : (f : ℕ → Bool) (n i : ℕ) → every f (upTo n) ≡ true → i < n → f i ≡ true
 every-upTo f zero i h l = absurd (not-suc-le-zero l)
 every-upTo f (suc n) i h l =
     let r = every-join f (upTo n) n h in

@@ -21,5 +21,7 @@ pub mod Unique
 pub mod Small
 -- What a tidier can rest on: the source pool, node by node.
 pub mod Source
+pub mod Copying
+pub mod Above
 -- What tidying promises.
 pub mod Demand3

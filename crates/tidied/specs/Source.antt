@@ -1,22 +1,22 @@
 -- A pool without a fault, node by node in order: the prefix of each node, and which of them the tidy pool of a view has.
-use mathlib.Core.Path.{_≡_, refl, sym, ap, ap₂, _∙_, subst}
-use mathlib.Core.Bool.{true, false}
-use mathlib.Core.List.{List, [], _∷_, _++_, map}
-use Prim.Native.Nat.{ℕ, zero, suc, _+_, _-_, _*_, _≤_, _<_}
+use mathlib.Core.Path.{_≡_, refl, sym, ap, _∙_, subst}
+use mathlib.Core.Bool.{true}
+use mathlib.Core.List.{List, [], _∷_, map}
+use Prim.Native.Nat.{ℕ, suc, _+_, _-_, _≤_, _<_}
 use native.Mathlib.Omega.{arith}
 use native.Mathlib.Nat.{zero-add}
-use lib.ListN.{length, getD, drop, List·getD-map, length-map}
+use lib.ListN.{length, getD, List·getD-map}
 use Rattle.defs.specs.declared.Prefix.{Prefix}
-use Rattle.defs.specs.Basics.{if_then_else_, keep, each, upTo}
+use Rattle.defs.specs.Basics.{keep, upTo}
 use Rattle.defs.specs.Prefix.{deeper, top}
 use Rattle.defs.specs.Pool.{nodeCount, childOf, firstChild, bit, rank}
-use Rattle.defs.specs.Entries.{Entry, view}
+use Rattle.defs.specs.Entries.{view}
 use Rattle.defs.specs.Tidy.{isUnder, nodesOf}
-use Rattle.defs.specs.Lemmas.{All, nil, more, all-both, keep-map, map-map}
+use Rattle.defs.specs.Lemmas.{All, more, keep-map, map-map}
 use Rattle.pool.specs.Sound.{Formed, depth}
-use Rattle.tidied.specs.ListFacts.{run, at-run, upTo-run, at-upTo, length-upTo, all-at, all-by, all-uneach, all-upTo, drop-run}
+use Rattle.tidied.specs.ListFacts.{run, at-run, upTo-run, length-upTo, all-at, all-by, all-uneach, drop-run}
 use Rattle.tidied.specs.Find.{Seen}
-use Rattle.tidied.specs.Spots.{Spot, rootSpot, kidAt, kidsAt, spotsUnder, innerSpots, spots, ids, used, nodes-spots, formed-laid, spots-run, spots-count, spots-placed, spots-fix, spots-seen, SeenSome}
+use Rattle.tidied.specs.Spots.{Spot, rootSpot, kidAt, kidsAt, spotsUnder, innerSpots, spots, used, nodes-spots, formed-laid, spots-run, spots-count, spots-placed, spots-fix, spots-seen}
 
 -- the prefix of node i
 unfoldable pub prefixAt : List ℕ → ℕ → Prefix
