@@ -19,7 +19,7 @@ use Rattle.tidied.specs.Words.{word-ext, word-map, word-zero}
 use Rattle.tidied.specs.Halving.{onto, deeper-apart}
 use Rattle.tidied.specs.Layout.{isHere}
 use Rattle.tidied.specs.Find.{every-upTo}
-use Rattle.tidied.specs.Copying.{under-path, under-outside}
+use Rattle.tidied.specs.Copying.{dataWord, childWord, under-path, under-outside}
 
 data-lens : (p : Prefix) → All (λ q. q .len < p .len + 5) (dataPrefixes p)
 unfolding dataPrefixes
@@ -37,7 +37,7 @@ module _ (w : List ℕ) (root p : Prefix) (above : p .len + 5 ≤ root .len) whe
   pub above-entries : entriesIn es p ≡ []
   above-entries = each-none (onto es) (λ q h. keep-false (λ e. same q (e .at)) (above-onto q h)) (data-lens p)
 
-  pub above-word : wordOf (isHere es) (dataPrefixes p) ≡ 0
+  pub above-word : dataWord es p ≡ 0
   above-word = word-zero (isHere es) (all-imp (λ q h. any-false (λ e. same q (e .at)) (above-onto q h)) (data-lens p))
 
   module _ (whole : Whole p) (short : p .len + 5 ≤ 64) (c : ℕ) (on-path : leads (deeper p 5 c) root ≡ true) where
@@ -60,7 +60,7 @@ module _ (w : List ℕ) (root p : Prefix) (above : p .len + 5 ≤ root .len) whe
             (is-false _ (λ h. eqb-false c d t (deeper-apart p whole 5 short c d root on-path h)))))
 
     -- so its child word has that one bit, or none where the view is empty
-    pub above-kids : c < 32 → wordOf (isUnder es) (childPrefixes p) ≡ (if full es then 2 ^ c else 0)
+    pub above-kids : c < 32 → childWord es p ≡ (if full es then 2 ^ c else 0)
     unfolding childPrefixes
     above-kids l =
         word-map (isUnder es) (childPrefixes p)

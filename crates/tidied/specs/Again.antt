@@ -1,26 +1,28 @@
 -- The tidy pool's words are laid out as its bits say, and all its nodes are used: tidied again, its values are 0, 1, 2, ..
 use mathlib.Core.Path.{_≡_, refl, sym, ap, _∙_, subst}
 use mathlib.Core.Bool.{true}
-use mathlib.Core.List.{List, [], _∷_, _++_, append-nil}
+use mathlib.Core.List.{List, [], _∷_, _++_, map, append-nil}
 use Prim.Native.Nat.{ℕ, zero, suc, _+_, _-_, _^_, _≤_, _<_}
 use native.Mathlib.Omega.{arith}
+use native.Mathlib.Nat.{zero-add}
 use lib.ListN.{length, getD, take, length-append, length-map}
-use lib.Seq.{take-suc, take-length}
+use lib.Seq.{take-suc, take-length, ext-getD}
 use Rattle.defs.specs.declared.Prefix.{Prefix}
 use Rattle.defs.specs.Basics.{each, upTo}
-use Rattle.defs.specs.Prefix.{deeper, top}
+use Rattle.defs.specs.Prefix.{same, deeper, top}
 use Rattle.defs.specs.Pool.{nodeCount, dataOf, childOf, bit, ones}
 use Rattle.defs.specs.Entries.{Entry, allEntries, view}
 use Rattle.defs.specs.Tidy.{dataPrefixes, childPrefixes, isUnder, entriesIn, childrenOf, nodesOf, wordOf, tidyPool, tidyValues}
-use Rattle.defs.specs.Lemmas.{All, nil, more, split, all-imp, all-append, each-append}
+use Rattle.defs.specs.Lemmas.{All, nil, more, split, all-imp, all-append, all-map, all-keep, each-append}
 use Rattle.defs.specs.EntryLaws.{Sound, sound-all}
 use Rattle.pool.specs.Sound.{childrenBefore, valuesBefore}
-use Rattle.tidied.specs.ListFacts.{all-each, all-upTo}
+use Rattle.tidied.specs.ListFacts.{all-each, each-all, all-upTo, all-at, at-run, upTo-run, length-upTo}
 use Rattle.tidied.specs.Words.{ones-word, word-lt}
-use Rattle.tidied.specs.Halving.{under-top}
+use Rattle.tidied.specs.Halving.{onto, under-top}
 use Rattle.tidied.specs.Layout.{data-count, child-count, isHere, NodeWords, words-at, pool-length, root-node, nodes-fix}
-use Rattle.tidied.specs.Holds.{count-onto, kid-at}
+use Rattle.tidied.specs.Holds.{count-onto, kid-at, through, holds-all}
 use Rattle.tidied.specs.Same.{under-same, tidy-prefixes}
+use Rattle.tidied.specs.Count.{values-count}
 use Rattle.tidied.specs.Spots.{Spot, rootSpot, kidAt, kidsAt, spotsUnder, spotsFrom, innerSpots, used, Laid}
 use Rattle.tidied.specs.Reading.{whole-view, values-same}
 
@@ -121,3 +123,31 @@ module _ (es : List Entry) (s : Sound top es) where
       ap tidyValues (whole-view pool pool-laid pool-used)
       ∙ values-same pool pool-laid pool-used
       ∙ ap upTo (sym (length-map (allEntries pool) (λ e. e .at)) ∙ ap length (tidy-prefixes es s) ∙ length-map es (λ e. e .at))
+
+map-alike : {A B : Type 0} (f g : A → B) (l : List A) → map f l ≡ map g l → All (λ x. f x ≡ g x) l
+map-alike f g [] e = nil
+map-alike f g (x ∷ l) e = let h : f x ≡ g x = cc e in more h (map-alike f g l (cc e))
+
+-- a value list is fixed by what it gives each entry of the tidy pool
+module _ (es : List Entry) (s : Sound top es) (vs : List ℕ) (long : length vs ≡ length es) (h : map (through vs) (allEntries (tidyPool es)) ≡ es) where
+  abbrev tvs : List ℕ
+  tvs = tidyValues es
+
+  abbrev E : List Entry
+  E = allEntries (tidyPool es)
+
+  agree : All (λ e. getD vs (e .value) 0 ≡ getD tvs (e .value) 0) E
+  agree = all-imp (λ (e : Entry) k. ap (λ (x : Entry). x .value) k) (map-alike (through vs) (through tvs) E (h ∙ sym (holds-all es s)))
+
+  agree-all : All (λ i. getD vs i 0 ≡ getD tvs i 0) (upTo (length es))
+  agree-all =
+      subst (All (λ i. getD vs i 0 ≡ getD tvs i 0)) (ap tidyValues (sym (under-top E (sound-all (tidyPool es)))) ∙ values-again es s)
+      (all-map (λ (e : Entry). e .value)
+      (each-all (entriesIn E) (λ p. each-all (onto E) (λ q. all-keep (λ e. same q (e .at)) agree) (dataPrefixes p)) (nodesOf E)))
+
+  pub values-fixed : vs ≡ tidyValues es
+  values-fixed =
+      ext-getD 0 vs tvs (long ∙ sym (values-count es s))
+      (λ i k.
+      let e : getD (upTo (length es)) i 0 ≡ i = ap (λ (x : List ℕ). getD x i 0) (upTo-run (length es)) ∙ at-run 0 (length es) i 0 (omega arith) ∙ zero-add i in
+      subst (λ (j : ℕ). getD vs j 0 ≡ getD tvs j 0) e (all-at agree-all i 0 (omega (arith, length-upTo (length es)))))

@@ -59,24 +59,25 @@ any-word t (x ∷ xs) = go (t x) (any-word t xs)
         (λ e. e ∙ sym (lt-ltb 0 (0 + 2 * wordOf t xs) (omega (arith, ltb-true 0 (wordOf t xs) e))))
         (λ e. e ∙ sym (le-ltb 0 (0 + 2 * wordOf t xs) (omega (arith, ltb-false 0 (wordOf t xs) e))))
 
+-- the data word of a node of the tidy pool
+abbrev pub dataWord : List Entry → Prefix → ℕ
+dataWord es p = wordOf (isHere es) (dataPrefixes p)
+
+-- its child word
+abbrev pub childWord : List Entry → Prefix → ℕ
+childWord es p = wordOf (isUnder es) (childPrefixes p)
+
 module _ (es : List Entry) (s : Sound top es) where
-  -- the data word and the child word of a node of the tidy pool
-  abbrev pub dataWord : Prefix → ℕ
-  dataWord p = wordOf (isHere es) (dataPrefixes p)
-
-  abbrev pub childWord : Prefix → ℕ
-  childWord p = wordOf (isUnder es) (childPrefixes p)
-
   -- a node counts as many children and values as its words have ones
   pub pool-step : (p : Prefix) (ps : List Prefix) (c v : ℕ)
-      → poolFrom es (p ∷ ps) c v ≡ dataWord p ∷ childWord p ∷ (1 + c) ∷ v ∷ poolFrom es ps (c + ones (childWord p)) (v + ones (dataWord p))
+      → poolFrom es (p ∷ ps) c v ≡ dataWord es p ∷ childWord es p ∷ (1 + c) ∷ v ∷ poolFrom es ps (c + ones (childWord es p)) (v + ones (dataWord es p))
   pool-step p ps c v =
-      let a : length (childrenOf es p) ≡ ones (childWord p) = sym (ones-word (isUnder es) (childPrefixes p) (omega (arith, child-count p))) in
-      let b : length (entriesIn es p) ≡ ones (dataWord p) = count-onto es (s .ascend) (dataPrefixes p) ∙ sym (ones-word (isHere es) (dataPrefixes p) (omega (arith, data-count p))) in
-      ap₂ (λ (x y : ℕ). dataWord p ∷ childWord p ∷ (1 + c) ∷ v ∷ poolFrom es ps (c + x) (v + y)) a b
+      let a : length (childrenOf es p) ≡ ones (childWord es p) = sym (ones-word (isUnder es) (childPrefixes p) (omega (arith, child-count p))) in
+      let b : length (entriesIn es p) ≡ ones (dataWord es p) = count-onto es (s .ascend) (dataPrefixes p) ∙ sym (ones-word (isHere es) (dataPrefixes p) (omega (arith, data-count p))) in
+      ap₂ (λ (x y : ℕ). dataWord es p ∷ childWord es p ∷ (1 + c) ∷ v ∷ poolFrom es ps (c + x) (v + y)) a b
 
   -- an entry lies in a node or below it exactly where one of its two words is not 0
-  pub used-words : (k : ℕ) (p : Prefix) → Deep (suc k) p → isUnder es p ≡ (ltb 0 (dataWord p) || ltb 0 (childWord p))
+  pub used-words : (k : ℕ) (p : Prefix) → Deep (suc k) p → isUnder es p ≡ (ltb 0 (dataWord es p) || ltb 0 (childWord es p))
   used-words k p d =
       any-full (λ e. leads p (e .at)) es
       ∙ full-length (under p es) (entriesIn es p ++ each (λ q. under q es) (childPrefixes p))
@@ -104,6 +105,15 @@ module _ (w : List ℕ) (root q : Prefix) where
       (all-imp (λ (e : Entry) t. is-false _ (λ h. ⊎-elim (λ c. not-both c a) (λ c. not-both c b) (comparable root q (e .at) t h))) (all-unmap (λ (e : Entry). e .at) (view w root) (view-led w root)))
 
 -- ---- a node
+
+-- data bit b of node i, of prefix p, is set, and the root leads its prefix
+abbrev pub taken : List ℕ → Prefix → ℕ → Prefix → ℕ → Bool
+taken w root i p b = bit b (dataOf w i) && leads root (getD (dataPrefixes p) b top)
+
+-- child bit c is set, and the child has an entry of the view in it or below it, so many levels deep
+abbrev pub kept : List ℕ → Prefix → ℕ → ℕ → Prefix → ℕ → Bool
+kept w root levels i p c = bit c (childOf w i) && full (under root (entriesAt w levels (firstChild w i + rank c (childOf w i)) (deeper p 5 c)))
+
 module _ (w : List ℕ) (root : Prefix) (levels i : ℕ) (p : Prefix) (s : Seen w (suc levels) i p) where
   abbrev es : List Entry
   es = view w root
@@ -111,16 +121,8 @@ module _ (w : List ℕ) (root : Prefix) (levels i : ℕ) (p : Prefix) (s : Seen 
   abbrev x : ℕ
   x = dataOf w i
 
-  -- data bit b is set, and the root leads its prefix
-  abbrev pub taken : ℕ → Bool
-  taken b = bit b (dataOf w i) && leads root (getD (dataPrefixes p) b top)
-
-  -- child bit c is set, and the child has an entry of the view in it or below it
-  abbrev pub kept : ℕ → Bool
-  kept c = bit c (childOf w i) && full (under root (entriesAt w levels (firstChild w i + rank c (childOf w i)) (deeper p 5 c)))
-
   view-data : (n v : ℕ) → n < 5 → v < 2 ^ n
-      → onto es (deeper p n v) ≡ (if taken (dataBit n v) then record { at = deeper p n v; value = firstValue w i + rank (dataBit n v) x } ∷ [] else [])
+      → onto es (deeper p n v) ≡ (if taken w root i p (dataBit n v) then record { at = deeper p n v; value = firstValue w i + rank (dataBit n v) x } ∷ [] else [])
   view-data n v h l =
       keep-swap (λ e. same (deeper p n v) (e .at)) (λ e. leads root (e .at)) (allEntries w)
       ∙ ap (under root) (seen-data w levels i p s n v h l)
@@ -128,35 +130,35 @@ module _ (w : List ℕ) (root : Prefix) (levels i : ℕ) (p : Prefix) (s : Seen 
       (λ b. split (leads root (deeper p n v)) (λ t. rw (b, data-bit p n v top h l .1, t)) (λ t. rw (b, data-bit p n v top h l .1, t))) (λ b. rw b)
 
   -- the data word
-  pub view-word : wordOf (isHere es) (dataPrefixes p) ≡ wordOf taken (upTo 31)
+  pub view-word : dataWord es p ≡ wordOf (taken w root i p) (upTo 31)
   unfolding dataPrefixes
   view-word =
       word-map (isHere es) (dataPrefixes p)
       ∙ ap (wordOf (λ b. b))
-      (map-rows (isHere es) (deeper p) taken dataBit 5
-      (λ n v h l. any-full (λ e. same (deeper p n v) (e .at)) es ∙ ap full (view-data n v h l) ∙ split (taken (dataBit n v)) (λ b. rw b) (λ b. rw b)))
-      ∙ sym (word-map taken (upTo 31))
+      (map-rows (isHere es) (deeper p) (taken w root i p) dataBit 5
+      (λ n v h l. any-full (λ e. same (deeper p n v) (e .at)) es ∙ ap full (view-data n v h l) ∙ split (taken w root i p (dataBit n v)) (λ b. rw b) (λ b. rw b)))
+      ∙ sym (word-map (taken w root i p) (upTo 31))
 
   -- the values, in the order of the data bits
-  pub view-values : map (λ e. e .value) (entriesIn es p) ≡ each (λ b. if taken b then (firstValue w i + rank b x) ∷ [] else []) (upTo 31)
+  pub view-values : map (λ e. e .value) (entriesIn es p) ≡ each (λ b. if taken w root i p b then (firstValue w i + rank b x) ∷ [] else []) (upTo 31)
   unfolding dataPrefixes
   view-values =
       map-each (λ (e : Entry). e .value) (onto es) (dataPrefixes p)
       ∙ each-join (λ q. map (λ (e : Entry). e .value) (onto es q)) (dataPrefixes p)
       ∙ ap (each (λ l. l))
-      (map-rows (λ q. map (λ (e : Entry). e .value) (onto es q)) (deeper p) (λ b. if taken b then (firstValue w i + rank b x) ∷ [] else []) dataBit 5
-      (λ n v h l. ap (map (λ (e : Entry). e .value)) (view-data n v h l) ∙ split (taken (dataBit n v)) (λ b. rw b) (λ b. rw b)))
-      ∙ sym (each-join (λ b. if taken b then (firstValue w i + rank b x) ∷ [] else []) (upTo 31))
+      (map-rows (λ q. map (λ (e : Entry). e .value) (onto es q)) (deeper p) (λ b. if taken w root i p b then (firstValue w i + rank b x) ∷ [] else []) dataBit 5
+      (λ n v h l. ap (map (λ (e : Entry). e .value)) (view-data n v h l) ∙ split (taken w root i p (dataBit n v)) (λ b. rw b) (λ b. rw b)))
+      ∙ sym (each-join (λ b. if taken w root i p b then (firstValue w i + rank b x) ∷ [] else []) (upTo 31))
 
   -- the child word
-  pub view-kids : wordOf (isUnder es) (childPrefixes p) ≡ wordOf kept (upTo 32)
+  pub view-kids : childWord es p ≡ wordOf (kept w root levels i p) (upTo 32)
   unfolding childPrefixes
   view-kids =
       word-map (isUnder es) (childPrefixes p)
-      ∙ ap (wordOf (λ b. b)) (map-map (isUnder es) (deeper p 5) (upTo 32) ∙ map-on (λ c. isUnder es (deeper p 5 c)) kept one (all-upTo 32))
-      ∙ sym (word-map kept (upTo 32))
+      ∙ ap (wordOf (λ b. b)) (map-map (isUnder es) (deeper p 5) (upTo 32) ∙ map-on (λ c. isUnder es (deeper p 5 c)) (kept w root levels i p) one (all-upTo 32))
+      ∙ sym (word-map (kept w root levels i p) (upTo 32))
     where
-      one : (c : ℕ) → c < 32 → isUnder es (deeper p 5 c) ≡ kept c
+      one : (c : ℕ) → c < 32 → isUnder es (deeper p 5 c) ≡ kept w root levels i p c
       one c l =
           any-full (λ e. leads (deeper p 5 c) (e .at)) es
           ∙ ap full (under-view w root (deeper p 5 c) ∙ ap (under root) (seen-child w levels i p s c l))
@@ -183,7 +185,7 @@ module _ (w : List ℕ) (root : Prefix) (levels i : ℕ) (p : Prefix) (s : Seen 
         ∙ sym (each-join (onto (allEntries w)) (dataPrefixes p))
 
     -- its data word
-    pub inside-word : x < 2 ^ 31 → wordOf (isHere es) (dataPrefixes p) ≡ x
+    pub inside-word : x < 2 ^ 31 → dataWord es p ≡ x
     unfolding dataPrefixes
     inside-word small =
         word-map (isHere es) (dataPrefixes p)

@@ -26,7 +26,7 @@ use Rattle.tidied.specs.Count.{values-count}
 use Rattle.tidied.specs.NoFault.{no-fault}
 use Rattle.tidied.specs.Fit.{view-short}
 use Rattle.tidied.specs.Spots.{nodes-fit, formed-laid}
-use Rattle.tidied.specs.Again.{pool-nodes, pool-used, values-before, values-again}
+use Rattle.tidied.specs.Again.{pool-nodes, pool-used, values-before, values-again, values-fixed}
 use Rattle.tidied.specs.Unique.{own-tidy}
 use Rattle.tidied.specs.Small.{tidy-words-lt, nodes-filled}
 
@@ -38,6 +38,11 @@ tidy-holds w root = holds-all (view w root) (view-sound w root)
 -- So its entries have exactly the view's prefixes.
 pub tidy-prefixes : (w : List ℕ) (root : Prefix) → prefixes (allEntries (tidyPool (view w root))) ≡ prefixes (view w root)
 tidy-prefixes w root = same-prefixes (view w root) (view-sound w root)
+
+-- The value list is the only one of its length that does so.
+pub tidy-values-unique : (w : List ℕ) (root : Prefix) (vs : List ℕ) → let es = view w root in
+    length vs ≡ length es → map (λ e. record { at = e .at; value = getD vs (e .value) 0 }) (allEntries (tidyPool es)) ≡ es → vs ≡ tidyValues es
+tidy-values-unique w root vs l h = values-fixed (view w root) (view-sound w root) vs l h
 
 -- It has four words for each node.
 pub tidy-words : (es : List Entry) → length (tidyPool es) ≡ 4 * length (nodesOf es)

@@ -23,5 +23,6 @@ pub mod Small
 pub mod Source
 pub mod Copying
 pub mod Above
+pub mod InOrder
 -- What tidying promises.
 pub mod Demand3

@@ -23,6 +23,10 @@ module _ {A B : Type 0} where
   all-each f g nil = nil
   all-each f g (more h hs) = all-append (g _ h) (all-each f g hs)
 
+  pub each-all : {Q : B → Type 0} (f : A → List B) → ((x : A) → All Q (f x)) → (xs : List A) → All Q (each f xs)
+  each-all f g [] = nil
+  each-all f g (x ∷ xs) = all-append (g x) (each-all f g xs)
+
   pub each-none : {P : A → Type 0} (f : A → List B) → ((x : A) → P x → f x ≡ []) → {xs : List A} → All P xs → each f xs ≡ []
   each-none f g nil = refl
   each-none f g (more {x = x} h hs) = rw (g x h) (each-none f g hs)

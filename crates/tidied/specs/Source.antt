@@ -18,16 +18,21 @@ use Rattle.tidied.specs.ListFacts.{run, at-run, upTo-run, length-upTo, a
 use Rattle.tidied.specs.Find.{Seen}
 use Rattle.tidied.specs.Spots.{Spot, rootSpot, kidAt, kidsAt, spotsUnder, innerSpots, spots, used, nodes-spots, formed-laid, spots-run, spots-count, spots-placed, spots-fix, spots-seen}
 
+-- node i with its prefix
+abbrev pub spotAt : List ℕ → ℕ → Spot
+spotAt w i = getD (spots w) i rootSpot
+
 -- the prefix of node i
 unfoldable pub prefixAt : List ℕ → ℕ → Prefix
-prefixAt w i = getD (spots w) i rootSpot .at
+prefixAt w i = spotAt w i .at
+
+-- a spot stands where its number says
+abbrev pub Own : List ℕ → Spot → Type 0
+Own w s = spotAt w (s .node) ≡ s
 
 module _ (width : ℕ) (w : List ℕ) (most : width ≤ 64) (ok : Formed width w) where
-  abbrev spotAt : ℕ → Spot
-  spotAt i = getD (spots w) i rootSpot
-
   -- node i stands at index i
-  id-at : (i : ℕ) → i < nodeCount w → spotAt i .node ≡ i
+  pub id-at : (i : ℕ) → i < nodeCount w → spotAt w i .node ≡ i
   id-at i h =
       let c = spots-count width w ok most in
       sym (List·getD-map (λ (s : Spot). s .node) (spots w) i rootSpot)
@@ -46,7 +51,7 @@ module _ (width : ℕ) (w : List ℕ) (most : width ≤ 64) (ok : Formed width w
   prefix-seen i h =
       let c = spots-count width w ok most in
       let r = all-at (spots-seen w) i rootSpot (omega arith) in
-      (r .0, subst (λ (j : ℕ). Seen w (suc (r .0)) j (spotAt i .at)) (id-at i h) (r .1))
+      (r .0, subst (λ (j : ℕ). Seen w (suc (r .0)) j (spotAt w i .at)) (id-at i h) (r .1))
 
   -- its length is the node's depth
   pub prefix-depth : (i : ℕ) → i < nodeCount w → depth w i ≡ prefixAt w i .len
@@ -55,27 +60,23 @@ module _ (width : ℕ) (w : List ℕ) (most : width ≤ 64) (ok : Formed width w
       let c = spots-count width w ok most in
       ap (depth w) (sym (id-at i h)) ∙ all-at (spots-placed width w ok most) i rootSpot (omega arith) .1
 
-  -- a spot stands where its number says
-  abbrev Own : Spot → Type 0
-  Own s = spotAt (s .node) ≡ s
+  own : All (Own w) (spots w)
+  own = all-by (spots w) rootSpot (λ i h. ap (spotAt w) (id-at i (let c = spots-count width w ok most in omega arith)))
 
-  own : All Own (spots w)
-  own = all-by (spots w) rootSpot (λ i h. ap spotAt (id-at i (let c = spots-count width w ok most in omega arith)))
-
-  kids-own : All (λ s. All Own (spotsUnder w s)) (spots w)
-  kids-own = all-uneach (spotsUnder w) (spots w) (subst (All Own) (spots-fix width w ok most) (inner own))
+  pub kids-own : All (λ s. All (Own w) (spotsUnder w s)) (spots w)
+  kids-own = all-uneach (spotsUnder w) (spots w) (subst (All (Own w)) (spots-fix width w ok most) (inner own))
     where
-      inner : All Own (spots w) → All Own (innerSpots w)
+      inner : All (Own w) (spots w) → All (Own w) (innerSpots w)
       inner (more h hs) = hs
 
-  kid-own : (s : Spot) → All Own (spotsUnder w s) → (c : ℕ) → c < 32 → bit c (childOf w (s .node)) ≡ true → Own (kidAt w s c)
+  kid-own : (s : Spot) → All (Own w) (spotsUnder w s) → (c : ℕ) → c < 32 → bit c (childOf w (s .node)) ≡ true → Own w (kidAt w s c)
   unfolding spotsUnder
   kid-own s a c l b =
       let e : getD (upTo 32) c 0 ≡ c = ap (λ (x : List ℕ). getD x c 0) (upTo-run 32) ∙ at-run 0 32 c 0 l ∙ zero-add c in
-      let k : All Own (kidsAt w s c) = subst (λ (x : ℕ). All Own (kidsAt w s x)) e (all-at (all-uneach (kidsAt w s) (upTo 32) a) c 0 (omega (arith, length-upTo 32))) in
+      let k : All (Own w) (kidsAt w s c) = subst (λ (x : ℕ). All (Own w) (kidsAt w s x)) e (all-at (all-uneach (kidsAt w s) (upTo 32) a) c 0 (omega (arith, length-upTo 32))) in
       head (rw b at k)
     where
-      head : {s : Spot} → All Own (s ∷ []) → Own s
+      head : {s : Spot} → All (Own w) (s ∷ []) → Own w s
       head (more h hs) = h
 
   -- the child in place c has five bits more, of value c
@@ -84,8 +85,8 @@ module _ (width : ℕ) (w : List ℕ) (most : width ≤ 64) (ok : Formed width w
   prefix-child i c h l b =
       let n = spots-count width w ok most in
       let e = id-at i h in
-      let o = kid-own (spotAt i) (all-at kids-own i rootSpot (omega arith)) c l (ap (λ (j : ℕ). bit c (childOf w j)) e ∙ b) in
-      ap (λ (j : ℕ). spotAt (firstChild w j + rank c (childOf w j)) .at) (sym e) ∙ ap (λ (s : Spot). s .at) o
+      let o = kid-own (spotAt w i) (all-at kids-own i rootSpot (omega arith)) c l (ap (λ (j : ℕ). bit c (childOf w j)) e ∙ b) in
+      ap (λ (j : ℕ). spotAt w (firstChild w j + rank c (childOf w j)) .at) (sym e) ∙ ap (λ (s : Spot). s .at) o
 
   -- the nodes of the tidy pool of a view, in order: the root, and the source's other nodes that have an entry of the view in them or below them
   pub nodes-in-order : (root : Prefix) → nodesOf (view w root) ≡ map (prefixAt w) (0 ∷ keep (λ i. isUnder (view w root) (prefixAt w i)) (run 1 (nodeCount w - 1)))
@@ -94,5 +95,5 @@ module _ (width : ℕ) (w : List ℕ) (most : width ≤ 64) (ok : Formed width w
       let c = spots-count width w ok most in
       nodes-spots w root
       ∙ ap (λ (ss : List Spot). top ∷ map (λ (s : Spot). s .at) (keep (used w root) ss)) (drop-run (spots w) rootSpot 1 (nodeCount w - 1) (let s = ok .some in omega arith))
-      ∙ ap (λ (ss : List Spot). top ∷ map (λ (s : Spot). s .at) ss) (keep-map (used w root) spotAt (run 1 (nodeCount w - 1)))
-      ∙ ap (top ∷_) (map-map (λ (s : Spot). s .at) spotAt (keep (λ i. used w root (spotAt i)) (run 1 (nodeCount w - 1))))
+      ∙ ap (λ (ss : List Spot). top ∷ map (λ (s : Spot). s .at) ss) (keep-map (used w root) (spotAt w) (run 1 (nodeCount w - 1)))
+      ∙ ap (top ∷_) (map-map (λ (s : Spot). s .at) (spotAt w) (keep (λ i. used w root (spotAt w i)) (run 1 (nodeCount w - 1))))

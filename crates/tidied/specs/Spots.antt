@@ -124,6 +124,18 @@ formed-laid width w ok =
       room = omega (arith, children-all width w ok);
     }
 
+module _ (w : List ℕ) where
+  -- the children of nodes a, a + 1, .. are such a run too: their numbers, and how many they are
+  pub record Below (a : ℕ) (ss : List Spot) : Type 0 where
+    pub numbers : ids (each (spotsUnder w) ss) ≡ run (1 + childrenBefore w a) (length (each (spotsUnder w) ss))
+    pub count : childrenBefore w (a + length ss) ≡ childrenBefore w a + length (each (spotsUnder w) ss)
+
+  -- a level that starts at node a
+  pub record Level (a : ℕ) (ss : List Spot) : Type 0 where
+    pub numbers : ids ss ≡ run a (length ss)
+    pub fits : a + length ss ≤ nodeCount w
+    pub start : 1 + childrenBefore w a ≡ a + length ss
+
 module _ (w : List ℕ) (ok : Laid w) where
   abbrev n : ℕ
   n = nodeCount w
@@ -131,12 +143,7 @@ module _ (w : List ℕ) (ok : Laid w) where
   before-mono : (i j : ℕ) → i ≤ j → childrenBefore w i ≤ childrenBefore w j
   before-mono i j h = le-ind (λ (k : ℕ). childrenBefore w i ≤ childrenBefore w k) (le-refl _) (λ k l e. omega arith) j h
 
-  -- the children of nodes a, a + 1, .. are such a run too
-  record Below (a : ℕ) (ss : List Spot) : Type 0 where
-    numbers : ids (each (spotsUnder w) ss) ≡ run (1 + childrenBefore w a) (length (each (spotsUnder w) ss))
-    count : childrenBefore w (a + length ss) ≡ childrenBefore w a + length (each (spotsUnder w) ss)
-
-  below-cons : (s : Spot) (ss : List Spot) (a : ℕ) → s .node ≡ a → a < n → Below (suc a) ss → Below a (s ∷ ss)
+  below-cons : (s : Spot) (ss : List Spot) (a : ℕ) → s .node ≡ a → a < n → Below w (suc a) ss → Below w a (s ∷ ss)
   below-cons s ss a at-a h r = record {
     numbers =
         map-append (λ (t : Spot). t .node) (spotsUnder w s) (each (spotsUnder w) ss)
@@ -160,17 +167,11 @@ module _ (w : List ℕ) (ok : Laid w) where
           length-append (spotsUnder w s) (each (spotsUnder w) ss)
           ∙ ap (_+ L) (sym (length-map (spotsUnder w s) (λ t. t .node)) ∙ ap length here ∙ length-run (1 + childrenBefore w a) cnt)
 
-  below-run : (ss : List Spot) (a : ℕ) → ids ss ≡ run a (length ss) → a + length ss ≤ n → Below a ss
+  pub below-run : (ss : List Spot) (a : ℕ) → ids ss ≡ run a (length ss) → a + length ss ≤ n → Below w a ss
   below-run [] a e h = record { numbers = refl; count = ap (childrenBefore w) (add-zero a) ∙ sym (add-zero (childrenBefore w a)) }
   below-run (s ∷ ss) a e h = below-cons s ss a (cc e) (omega arith) (below-run ss (suc a) (cc e) (omega arith))
 
-  -- a level that starts at node a
-  pub record Level (a : ℕ) (ss : List Spot) : Type 0 where
-    pub numbers : ids ss ≡ run a (length ss)
-    pub fits : a + length ss ≤ n
-    pub start : 1 + childrenBefore w a ≡ a + length ss
-
-  pub next-level : (a : ℕ) (ss : List Spot) → Level a ss → Level (a + length ss) (each (spotsUnder w) ss)
+  pub next-level : (a : ℕ) (ss : List Spot) → Level w a ss → Level w (a + length ss) (each (spotsUnder w) ss)
   next-level a ss l =
       let b = below-run ss a (l .numbers) (l .fits) in
       let e : 1 + childrenBefore w (a + length ss) ≡ a + length ss + length (each (spotsUnder w) ss) = omega (arith, b .count, l .start) in
@@ -180,7 +181,7 @@ module _ (w : List ℕ) (ok : Laid w) where
         start = e;
       }
 
-  levels-run : (k a : ℕ) (ss : List Spot) → Level a ss → (ids (spotsFrom w k ss) ≡ run a (length (spotsFrom w k ss))) × (a + length (spotsFrom w k ss) ≤ n)
+  levels-run : (k a : ℕ) (ss : List Spot) → Level w a ss → (ids (spotsFrom w k ss) ≡ run a (length (spotsFrom w k ss))) × (a + length (spotsFrom w k ss) ≤ n)
   levels-run zero a ss l = (refl, omega (arith, l .fits))
   levels-run (suc k) a ss l =
       let r = levels-run k (a + length ss) (each (spotsUnder w) ss) (next-level a ss l) in
@@ -188,11 +189,11 @@ module _ (w : List ℕ) (ok : Laid w) where
       let m = length-append ss rest in
       (map-append (λ (t : Spot). t .node) ss rest ∙ ap₂ _++_ (l .numbers) (r .0) ∙ run-append a (length ss) (length rest) ∙ ap (run a) (sym m), omega (arith, r .1))
 
-  root-level : Level 0 (rootSpot ∷ [])
+  root-level : Level w 0 (rootSpot ∷ [])
   root-level = record { numbers = refl; fits = omega (arith, ok .some); start = refl }
 
-  pub first-level : Level 1 (spotsUnder w rootSpot)
-  first-level = subst (Level 1) (append-nil (spotsUnder w rootSpot)) (next-level 0 (rootSpot ∷ []) root-level)
+  pub first-level : Level w 1 (spotsUnder w rootSpot)
+  first-level = subst (Level w 1) (append-nil (spotsUnder w rootSpot)) (next-level 0 (rootSpot ∷ []) root-level)
 
   -- the nodes are numbered in order
   pub spots-run : ids (spots w) ≡ run 0 (length (spots w))
@@ -217,7 +218,7 @@ module _ (width : ℕ) (w : List ℕ) (ok : Formed width w) (most : width ≤ 64
       (λ b. let m = child-node width w ok (s .node) c (p .0) l b in let t : Placed k (kidAt w s c) = (m .0, m .2 ∙ ap (_+ 5) (p .1), omega (arith, p .2)) in rw b (more t nil)) (λ b. rw b nil))
       (all-upTo 32)
 
-  cover : (k a : ℕ) (ss : List Spot) → All (Placed k) ss → Level w (formed-laid width w ok) a ss → a + length (spotsFrom w k ss) ≡ nodeCount w
+  cover : (k a : ℕ) (ss : List Spot) → All (Placed k) ss → Level w a ss → a + length (spotsFrom w k ss) ≡ nodeCount w
   cover zero a [] h l =
       split (ltb a (nodeCount w))
       (λ t. let i = ltb-true a (nodeCount w) t in absurd (let z : ⊥ = omega (arith, ok .node a i .later, ok .node a i .child, l .start) in z))
@@ -307,7 +308,7 @@ module _ (w : List ℕ) (root : Prefix) where
   pub under-view : (q : Prefix) → under q es ≡ under root (under q (allEntries w))
   under-view q = keep-swap (λ e. leads q (e .at)) (λ e. leads root (e .at)) (allEntries w)
 
-  child-used : (k : ℕ) (s : Spot) → SeenAt w (suc k) s → (c : ℕ) → c < 32 → isUnder es (deeper (s .at) 5 c) ≡ true → bit c (childOf w (s .node)) ≡ true
+  pub child-used : (k : ℕ) (s : Spot) → SeenAt w (suc k) s → (c : ℕ) → c < 32 → isUnder es (deeper (s .at) 5 c) ≡ true → bit c (childOf w (s .node)) ≡ true
   child-used k s p c l t =
       split (bit c (childOf w (s .node))) (λ b. b)
       (λ b.
@@ -339,7 +340,7 @@ module _ (w : List ℕ) (root : Prefix) where
   kids-used k s p = list-used s (all-imp (child-used k s p) (all-upTo 32))
 
   -- the children of an unused node are unused
-  used-up : (k : ℕ) (p : Prefix) → Deep (suc k) p → (c : ℕ) → c < 32 → isUnder es (deeper p 5 c) ≡ true → isUnder es p ≡ true
+  pub used-up : (k : ℕ) (p : Prefix) → Deep (suc k) p → (c : ℕ) → c < 32 → isUnder es (deeper p 5 c) ≡ true → isUnder es p ≡ true
   used-up k p d c l t =
       let q = deeper p 5 c in
       split (ltb 64 (p .len + 5))
@@ -356,27 +357,28 @@ module _ (w : List ℕ) (root : Prefix) where
       (λ b. let t : used (kidAt w s c) ≡ false = is-false _ (λ h. not-both (used-up k (s .at) (p .deep) c l h) u) in rw b (more t nil)) (λ b. rw b nil))
       (all-upTo 32))
 
-  level-used : (k : ℕ) {ss : List Spot} → All (SeenAt w (suc k)) ss
+  -- one level: the used nodes of a run of nodes have as children the used ones among its children
+  pub level-used : {ss : List Spot} → All (SeenSome w) ss
       → each (childrenOf es) (map (λ t. t .at) (keep used ss)) ≡ map (λ t. t .at) (keep used (each (spotsUnder w) ss))
-  level-used k nil = refl
-  level-used k (more {x = s} {xs = ss} p h) =
+  level-used nil = refl
+  level-used (more {x = s} {xs = ss} p h) =
       let rest = each (spotsUnder w) ss in
-      let r = level-used k h in
+      let r = level-used h in
       split (used s)
       (λ u.
       rw (u, keep)
-      (ap₂ _++_ (kids-used k s p) r
+      (ap₂ _++_ (kids-used (p .0) s (p .1)) r
       ∙ sym (map-append (λ (t : Spot). t .at) (keep used (spotsUnder w s)) (keep used rest))
       ∙ ap (map (λ (t : Spot). t .at)) (sym (keep-append used (spotsUnder w s) rest))))
       (λ u.
       rw (u, keep)
-      (r ∙ ap (map (λ (t : Spot). t .at)) (sym (keep-append used (spotsUnder w s) rest ∙ ap (_++ keep used rest) (unused-kids k s p u)))))
+      (r ∙ ap (map (λ (t : Spot). t .at)) (sym (keep-append used (spotsUnder w s) rest ∙ ap (_++ keep used rest) (unused-kids (p .0) s (p .1) u)))))
 
   levels-used : (k : ℕ) {ss : List Spot} → All (SeenAt w k) ss → nodesFrom es k (map (λ t. t .at) (keep used ss)) ≡ map (λ t. t .at) (keep used (spotsFrom w k ss))
   levels-used zero h = refl
   levels-used (suc k) {ss} h =
       ap (map (λ (t : Spot). t .at) (keep used ss) ++_)
-      (ap (nodesFrom es k) (level-used k h) ∙ levels-used k (all-each (spotsUnder w) (seen-under w k) h))
+      (ap (nodesFrom es k) (level-used (all-imp (λ s p. (k, p)) h)) ∙ levels-used k (all-each (spotsUnder w) (seen-under w k) h))
       ∙ sym (map-append (λ (t : Spot). t .at) (keep used ss) (keep used (spotsFrom w k (each (spotsUnder w) ss))))
       ∙ ap (map (λ (t : Spot). t .at)) (sym (keep-append used ss (spotsFrom w k (each (spotsUnder w) ss))))
 
