@@ -4,7 +4,6 @@ use mathlib.Core.Bool.{true}
 use mathlib.Core.List.{List, [], _∷_, _++_, map, append-nil}
 use Prim.Native.Nat.{ℕ, zero, suc, _+_, _-_, _^_, _≤_, _<_}
 use native.Mathlib.Omega.{arith}
-use native.Mathlib.Nat.{zero-add}
 use lib.ListN.{length, getD, take, length-append, length-map}
 use lib.Seq.{take-suc, take-length, ext-getD}
 use Rattle.defs.specs.declared.Prefix.{Prefix}
@@ -16,7 +15,7 @@ use Rattle.defs.specs.Tidy.{dataPrefixes, childPrefixes, isUnder, entriesIn, ch
 use Rattle.defs.specs.Lemmas.{All, nil, more, split, all-imp, all-append, all-map, all-keep, each-append}
 use Rattle.defs.specs.EntryLaws.{Sound, sound-all}
 use Rattle.pool.specs.Sound.{childrenBefore, valuesBefore}
-use Rattle.tidied.specs.ListFacts.{all-each, each-all, all-upTo, all-at, at-run, upTo-run, length-upTo}
+use Rattle.tidied.specs.ListFacts.{upTo-member, all-each, each-all, all-upTo}
 use Rattle.tidied.specs.Words.{ones-word, word-lt}
 use Rattle.tidied.specs.Halving.{onto, under-top}
 use Rattle.tidied.specs.Layout.{data-count, child-count, isHere, NodeWords, words-at, pool-length, root-node, nodes-fix}
@@ -148,6 +147,4 @@ module _ (es : List Entry) (s : Sound top es) (vs : List ℕ) (long : length vs 
   pub values-fixed : vs ≡ tidyValues es
   values-fixed =
       ext-getD 0 vs tvs (long ∙ sym (values-count es s))
-      (λ i k.
-      let e : getD (upTo (length es)) i 0 ≡ i = ap (λ (x : List ℕ). getD x i 0) (upTo-run (length es)) ∙ at-run 0 (length es) i 0 (omega arith) ∙ zero-add i in
-      subst (λ (j : ℕ). getD vs j 0 ≡ getD tvs j 0) e (all-at agree-all i 0 (omega (arith, length-upTo (length es)))))
+      (λ i k. upTo-member (length es) agree-all i (omega arith))

@@ -2,7 +2,7 @@
 use mathlib.Core.Path.{_≡_, refl, sym, ap, ap₂, _∙_}
 use mathlib.Core.Bool.{Bool}
 use mathlib.Core.List.{List, [], _∷_, map}
-use Prim.Native.Nat.{ℕ, zero, suc, _+_, _-_, _≤_, _<_}
+use Prim.Native.Nat.{ℕ, _+_, _-_, _≤_}
 use native.Mathlib.Omega.{arith}
 use lib.ListN.{length, length-map}
 use Rattle.defs.specs.declared.Prefix.{Prefix}
@@ -12,15 +12,11 @@ use Rattle.defs.specs.Entries.{Entry, view}
 use Rattle.defs.specs.Tidy.{isUnder, entriesIn, childrenOf, poolFrom, tidyPool, tidyValues}
 use Rattle.defs.specs.Lemmas.{All, nil, more, all-imp, all-map, keep-map, map-map, map-on}
 use Rattle.pool.specs.Sound.{Formed, childrenBefore}
-use Rattle.tidied.specs.ListFacts.{run, length-run, all-at, all-each, each-map, map-each}
+use Rattle.tidied.specs.ListFacts.{run, run-below, length-run, all-at, all-each, each-map, map-each}
 use Rattle.tidied.specs.Holds.{view-sound}
 use Rattle.tidied.specs.Spots.{Spot, rootSpot, ids, spotsUnder, used, formed-laid, spots-count, spots-seen, below-run, level-used}
 use Rattle.tidied.specs.Source.{prefixAt, spotAt, id-at, Own, kids-own, nodes-in-order}
 use Rattle.tidied.specs.Copying.{dataWord, childWord, pool-step}
-
-all-run : (a m n : ℕ) → a + m ≤ n → All (λ i. i < n) (run a m)
-all-run a zero n h = nil
-all-run a (suc m) n h = let l : a < n = omega arith in more l (all-run (suc a) m n (omega arith))
 
 -- ---- words from node numbers
 
@@ -55,10 +51,10 @@ module _ (width : ℕ) (w : List ℕ) (most : width ≤ 64) (ok : Formed width w
       let ss = map at (run a m) in
       let l : length ss ≡ m = length-map (run a m) at ∙ length-run a m in
       let e : ids ss ≡ run a (length ss) =
-      map-map (λ (s : Spot). s .node) at (run a m) ∙ map-on (λ i. at i .node) (λ i. i) (λ i k. id-at width w most ok i k) (all-run a m (nodeCount w) h) ∙ map-same (run a m) ∙ ap (run a) (sym l) in
+      map-map (λ (s : Spot). s .node) at (run a m) ∙ map-on (λ i. at i .node) (λ i. i) (λ i k. id-at width w most ok i k) (run-below a m (nodeCount w) h) ∙ map-same (run a m) ∙ ap (run a) (sym l) in
       let b = below-run w (formed-laid width w ok) ss a e (omega arith) in
       let n : length (each (spotsUnder w) ss) ≡ childrenBefore w (a + m) - childrenBefore w a = omega (arith, b .count, ap (λ (x : ℕ). childrenBefore w (a + x)) l) in
-      own-list (all-each (spotsUnder w) (λ s k. k) (all-map at (all-imp (λ i k. all-at (kids-own width w most ok) i rootSpot (omega arith)) (all-run a m (nodeCount w) h))))
+      own-list (all-each (spotsUnder w) (λ s k. k) (all-map at (all-imp (λ i k. all-at (kids-own width w most ok) i rootSpot (omega arith)) (run-below a m (nodeCount w) h))))
       ∙ ap (map at) (b .numbers ∙ ap (run (1 + childrenBefore w a)) n)
     where
       map-same : (l : List ℕ) → map (λ i. i) l ≡ l
@@ -77,7 +73,7 @@ module _ (width : ℕ) (w : List ℕ) (most : width ≤ 64) (ok : Formed width w
     next-range a m h =
         let c = spots-count width w ok most in
         ap (each (childrenOf (view w root))) (sym (used-numbers (run a m)))
-        ∙ level-used w root (all-map at (all-imp (λ i k. all-at (spots-seen w) i rootSpot (omega arith)) (all-run a m (nodeCount w) h)))
+        ∙ level-used w root (all-map at (all-imp (λ i k. all-at (spots-seen w) i rootSpot (omega arith)) (run-below a m (nodeCount w) h)))
         ∙ ap (λ (ss : List Spot). map (λ (s : Spot). s .at) (keep (used w root) ss)) (kids-range a m h)
         ∙ used-numbers (run (1 + childrenBefore w a) (childrenBefore w (a + m) - childrenBefore w a))
 

@@ -5,7 +5,7 @@ use mathlib.Core.Logic.{⊎-elim}
 use mathlib.Core.List.{List, [], _∷_, _++_, map, append-nil}
 use Prim.Native.Nat.{ℕ, zero, suc, _+_, _-_, _^_, _≤_, _<_}
 use native.Mathlib.Omega.{arith}
-use native.Mathlib.Nat.{pow-succ', not-suc-le-zero, le-of-suc-le-suc, eq-or-lt-of-le, add-zero}
+use native.Mathlib.Nat.{pow-succ', not-suc-le-zero, le-of-suc-le-suc, eq-or-lt-of-le, add-zero, le-refl}
 use lib.Pow.{pow-mono}
 use lib.ListN.{length, getD, take, drop, length-append, List·getD-append, length-map, drop-of-length-le}
 use lib.Seq.{getD-append-add, getD-at, split-at, drop-cons}
@@ -76,12 +76,30 @@ at-run a zero i d h = absurd (not-suc-le-zero h)
 at-run a (suc m) zero d h = sym (add-zero a)
 at-run a (suc m) (suc i) d h = at-run (suc a) m i d (le-of-suc-le-suc h) ∙ omega arith
 
+-- each of a run is at least the first, and below what it ends at
+pub run-from : (a m : ℕ) → All (λ x. a ≤ x) (run a m)
+run-from a zero = nil
+run-from a (suc m) = more (le-refl a) (all-imp (λ x h. omega arith) (run-from (suc a) m))
+
+pub run-below : (a m n : ℕ) → a + m ≤ n → All (λ i. i < n) (run a m)
+run-below a zero n h = nil
+run-below a (suc m) n h = let l : a < n = omega arith in more l (run-below (suc a) m n (omega arith))
+
+-- what holds of a run holds of each number in it
+pub run-member : {P : ℕ → Type 0} (a m : ℕ) → All P (run a m) → (i : ℕ) → a ≤ i → i < a + m → P i
+run-member a zero h i l k = absurd (let z : ⊥ = omega arith in z)
+run-member {P} a (suc m) (more h hs) i l k =
+    ⊎-elim (λ e. subst P e h) (λ g. run-member (suc a) m hs i g (omega arith)) (eq-or-lt-of-le l)
+
 pub upTo-run : (n : ℕ) → upTo n ≡ run 0 n
 upTo-run zero = refl
 upTo-run (suc n) =
     let e : 0 + n ≡ n = omega arith in
     let f : n + 1 ≡ suc n = omega arith in
     ap₂ (λ (l : List ℕ) (x : ℕ). l ++ (x ∷ [])) (upTo-run n) (sym e) ∙ run-append 0 n 1 ∙ ap (run 0) f
+
+pub upTo-member : {P : ℕ → Type 0} (n : ℕ) → All P (upTo n) → (i : ℕ) → i < n → P i
+upTo-member {P} n h i l = run-member 0 n (subst (All P) (upTo-run n) h) i (omega arith) (omega arith)
 
 module _ {A : Type 0} where
   -- the i-th of f 0, f 1, ..
@@ -156,6 +174,12 @@ module _ {A : Type 0} where
   pub all-by : {P : A → Type 0} (l : List A) (d : A) → ((i : ℕ) → i < length l → P (getD l i d)) → All P l
   all-by [] d h = nil
   all-by (x ∷ l) d h = more (h 0 (omega arith)) (all-by l d (λ i k. h (suc i) (omega arith)))
+
+  pub all-tail : {P : A → Type 0} {x : A} {l : List A} → All P (x ∷ l) → All P l
+  all-tail (more h hs) = hs
+
+  pub all-head : {P : A → Type 0} {x : A} {l : List A} → All P (x ∷ l) → P x
+  all-head (more h hs) = h
 
   pub all-front : {P : A → Type 0} (a b : List A) → All P (a ++ b) → All P a × All P b
   all-front [] b h = (nil, h)

@@ -2,10 +2,9 @@
 use mathlib.Core.Path.{_≡_, refl, sym, ap, _∙_, subst}
 use mathlib.Core.Bool.{true}
 use mathlib.Core.List.{List, [], _∷_, map}
-use Prim.Native.Nat.{ℕ, zero, suc, _+_, _-_, _^_, _≤_, _<_}
+use Prim.Native.Nat.{ℕ, suc, _+_, _-_, _^_, _≤_, _<_}
 use native.Mathlib.Omega.{arith}
-use mathlib.Core.Logic.{⊎-elim}
-use native.Mathlib.Nat.{lt-of-lt-of-le, eq-or-lt-of-le}
+use native.Mathlib.Nat.{lt-of-lt-of-le}
 use lib.Pow.{pow-mono}
 use lib.ListN.{length, length-append}
 use Rattle.defs.specs.declared.Prefix.{Prefix}
@@ -18,7 +17,7 @@ use Rattle.defs.specs.Tidy.{dataPrefixes, childPrefixes, isUnder, entriesIn, ch
 use Rattle.defs.specs.Lemmas.{All, nil, more, not-both, all-imp, all-both, all-map}
 use Rattle.defs.specs.EntryLaws.{sound-all}
 use Rattle.pool.specs.Sound.{Formed, depth}
-use Rattle.tidied.specs.ListFacts.{full, any-full, run}
+use Rattle.tidied.specs.ListFacts.{full, any-full, run, run-member, all-tail}
 use Rattle.tidied.specs.Words.{word-lt}
 use Rattle.tidied.specs.Halving.{under-top}
 use Rattle.tidied.specs.Layout.{isHere, data-count, child-count}
@@ -50,14 +49,6 @@ module _ (es : List Entry) where
   tidy-words-lt h k = words-lt (nodesOf es) 0 0 (omega arith) (omega arith)
 
 -- ---- used nodes
-run-member : {P : ℕ → Type 0} (a m : ℕ) → All P (run a m) → (i : ℕ) → a ≤ i → i < a + m → P i
-run-member a zero h i l k = absurd (let z : ⊥ = omega arith in z)
-run-member {P} a (suc m) (more h hs) i l k =
-    ⊎-elim (λ e. subst P e h) (λ g. run-member (suc a) m hs i g (omega arith)) (eq-or-lt-of-le l)
-
-tail-of : {A : Type 0} {P : A → Type 0} {x : A} {l : List A} → All P (x ∷ l) → All P l
-tail-of (more h hs) = hs
-
 -- where all spots but the root are used, each node but the root has an entry in it or below it
 module _ (width : ℕ) (w : List ℕ) (most : width ≤ 64) (ok : Formed width w) (all-used : All (λ s. used w top s ≡ true) (innerSpots w)) where
   abbrev Filled : ℕ → Type 0
@@ -80,6 +71,6 @@ module _ (width : ℕ) (w : List ℕ) (most : width ≤ 64) (ok : Formed width w
   nodes-filled i s h =
       let e : ids (innerSpots w) ≡ run 1 (length (innerSpots w)) = cc (spots-run w (formed-laid width w ok)) in
       let c = spots-count width w ok most in
-      let a = all-both (all-both (tail-of (spots-seen w)) (tail-of (spots-placed width w ok most))) all-used in
+      let a = all-both (all-both (all-tail (spots-seen w)) (all-tail (spots-placed width w ok most))) all-used in
       run-member 1 (length (innerSpots w))
       (subst (All Filled) e (all-map {P = Filled} (λ (s : Spot). s .node) (all-imp (λ (s : Spot) k. spot-filled s (k .0 .0) (k .0 .1) (k .1)) a))) i s (omega arith)

@@ -1,7 +1,7 @@
 -- A pool without a fault, node by node in order: the prefix of each node, and which of them the tidy pool of a view has.
 use mathlib.Core.Path.{_≡_, refl, sym, ap, _∙_, subst}
 use mathlib.Core.Bool.{true}
-use mathlib.Core.List.{List, [], _∷_, map}
+use mathlib.Core.List.{List, _∷_, map}
 use Prim.Native.Nat.{ℕ, suc, _+_, _-_, _≤_, _<_}
 use native.Mathlib.Omega.{arith}
 use native.Mathlib.Nat.{zero-add}
@@ -12,11 +12,11 @@ use Rattle.defs.specs.Prefix.{deeper, top}
 use Rattle.defs.specs.Pool.{nodeCount, childOf, firstChild, bit, rank}
 use Rattle.defs.specs.Entries.{view}
 use Rattle.defs.specs.Tidy.{isUnder, nodesOf}
-use Rattle.defs.specs.Lemmas.{All, more, keep-map, map-map}
+use Rattle.defs.specs.Lemmas.{All, keep-map, map-map}
 use Rattle.pool.specs.Sound.{Formed, depth}
-use Rattle.tidied.specs.ListFacts.{run, at-run, upTo-run, length-upTo, all-at, all-by, all-uneach, drop-run}
+use Rattle.tidied.specs.ListFacts.{run, all-tail, all-head, upTo-member, at-run, all-at, all-by, all-uneach, drop-run}
 use Rattle.tidied.specs.Find.{Seen}
-use Rattle.tidied.specs.Spots.{Spot, rootSpot, kidAt, kidsAt, spotsUnder, innerSpots, spots, used, nodes-spots, formed-laid, spots-run, spots-count, spots-placed, spots-fix, spots-seen}
+use Rattle.tidied.specs.Spots.{Spot, rootSpot, kidAt, kidsAt, spotsUnder, spots, used, nodes-spots, formed-laid, spots-run, spots-count, spots-placed, spots-fix, spots-seen}
 
 -- node i with its prefix
 abbrev pub spotAt : List ℕ → ℕ → Spot
@@ -64,20 +64,11 @@ module _ (width : ℕ) (w : List ℕ) (most : width ≤ 64) (ok : Formed width w
   own = all-by (spots w) rootSpot (λ i h. ap (spotAt w) (id-at i (let c = spots-count width w ok most in omega arith)))
 
   pub kids-own : All (λ s. All (Own w) (spotsUnder w s)) (spots w)
-  kids-own = all-uneach (spotsUnder w) (spots w) (subst (All (Own w)) (spots-fix width w ok most) (inner own))
-    where
-      inner : All (Own w) (spots w) → All (Own w) (innerSpots w)
-      inner (more h hs) = hs
+  kids-own = all-uneach (spotsUnder w) (spots w) (subst (All (Own w)) (spots-fix width w ok most) (all-tail own))
 
   kid-own : (s : Spot) → All (Own w) (spotsUnder w s) → (c : ℕ) → c < 32 → bit c (childOf w (s .node)) ≡ true → Own w (kidAt w s c)
   unfolding spotsUnder
-  kid-own s a c l b =
-      let e : getD (upTo 32) c 0 ≡ c = ap (λ (x : List ℕ). getD x c 0) (upTo-run 32) ∙ at-run 0 32 c 0 l ∙ zero-add c in
-      let k : All (Own w) (kidsAt w s c) = subst (λ (x : ℕ). All (Own w) (kidsAt w s x)) e (all-at (all-uneach (kidsAt w s) (upTo 32) a) c 0 (omega (arith, length-upTo 32))) in
-      head (rw b at k)
-    where
-      head : {s : Spot} → All (Own w) (s ∷ []) → Own w s
-      head (more h hs) = h
+  kid-own s a c l b = let k : All (Own w) (kidsAt w s c) = upTo-member 32 (all-uneach (kidsAt w s) (upTo 32) a) c l in all-head (rw b at k)
 
   -- the child in place c has five bits more, of value c
   pub prefix-child : (i c : ℕ) → i < nodeCount w → c < 32 → bit c (childOf w i) ≡ true → prefixAt w (firstChild w i + rank c (childOf w i)) ≡ deeper (prefixAt w i) 5 c

@@ -4,7 +4,6 @@ use mathlib.Core.Bool.{true}
 use mathlib.Core.List.{List, [], _∷_, map}
 use Prim.Native.Nat.{ℕ, zero, suc, _+_, _-_, _*_, _^_, _≤_, _<_}
 use native.Mathlib.Omega.{arith}
-use native.Mathlib.Nat.{le-refl}
 use lib.Dec.{lit<}
 use borrow.Author.Tests.{ltb-true}
 use lib.ListN.{length, getD, drop, drop-of-length-le}
@@ -18,7 +17,7 @@ use Rattle.defs.specs.Tidy.{childPrefixes, isUnder, entriesIn, childrenOf, word
 use Rattle.defs.specs.Lemmas.{All, nil, more, split, all-imp, all-both, all-unmap, map-map, map-on, each-on}
 use Rattle.defs.specs.EntryLaws.{sound-all}
 use Rattle.pool.specs.Sound.{Formed, childrenBefore, valuesBefore, depth, depth-60, child-node, data-small}
-use Rattle.tidied.specs.ListFacts.{full, any-full, run, all-upTo, map-each}
+use Rattle.tidied.specs.ListFacts.{full, any-full, run, run-from, all-tail, all-upTo, map-each}
 use Rattle.tidied.specs.Words.{word-map, word-bits, ones-word}
 use Rattle.tidied.specs.Halving.{under-top}
 use Rattle.tidied.specs.Layout.{child-count}
@@ -39,13 +38,6 @@ all-getD : {A : Type 0} {P : A → Type 0} {d : A} {l : List A} → All P l → 
 all-getD nil p i = p
 all-getD (more h hs) p zero = h
 all-getD (more h hs) p (suc i) = all-getD hs p i
-
-all-run : (a m : ℕ) → All (λ x. a ≤ x) (run a m)
-all-run a zero = nil
-all-run a (suc m) = more (le-refl a) (all-imp (λ x h. omega arith) (all-run (suc a) m))
-
-tail-of : {A : Type 0} {P : A → Type 0} {x : A} {l : List A} → All P (x ∷ l) → All P l
-tail-of (more h hs) = hs
 
 four-words : (w : List ℕ) (b : ℕ) → b + 4 ≤ length w
     → drop b w ≡ getD w b 0 ∷ getD w (b + 1) 0 ∷ getD w (b + 2) 0 ∷ getD w (b + 3) 0 ∷ drop (b + 4) w
@@ -102,7 +94,7 @@ module _ (width : ℕ) (w : List ℕ) (most : width ≤ 64) (ok : Formed width w
     inner-later : All (λ s. 1 ≤ s .node) (innerSpots w)
     inner-later =
         let e : ids (innerSpots w) ≡ run 1 (length (innerSpots w)) = cc (spots-run w (formed-laid width w ok)) in
-        all-unmap (λ (s : Spot). s .node) (innerSpots w) (subst (All (λ x. 1 ≤ x)) (sym e) (all-run 1 (length (innerSpots w))))
+        all-unmap (λ (s : Spot). s .node) (innerSpots w) (subst (All (λ x. 1 ≤ x)) (sym e) (run-from 1 (length (innerSpots w))))
 
     all-used : All (λ s. used w top s ≡ true) (innerSpots w)
     all-used =
@@ -112,7 +104,7 @@ module _ (width : ℕ) (w : List ℕ) (most : width ≤ 64) (ok : Formed width w
         ∙ any-full (λ e. leads (s .at) (e .at)) E
         ∙ ap full (k .0 .0 .1 .held)
         ∙ entries-full (suc (k .0 .0 .0)) (s .node) (s .at) (k .1) (k .0 .1 .0) (omega (arith, k .0 .1 .1, k .0 .0 .1 .deep .1)))
-        (all-both (tail-of spots-known) inner-later)
+        (all-both (all-tail spots-known) inner-later)
 
     module _ (levels i : ℕ) (p : Prefix) (s : Seen w (suc levels) i p) (h : i < nodeCount w) (d : depth w i ≡ p .len) where
       child-here : (c : ℕ) → c < 32 → bit c (childOf w i) ≡ isUnder E (deeper p 5 c)
