@@ -12,7 +12,7 @@ use Rattle.defs.specs.Basics.{each, upTo}
 use Rattle.defs.specs.Prefix.{top}
 use Rattle.defs.specs.Pool.{nodeCount}
 use Rattle.defs.specs.Entries.{Entry, entriesAt, allEntries, view, prefixes}
-use Rattle.defs.specs.Check.{faultOf}
+use Rattle.defs.specs.Check.{poolLimit, faultOf}
 use Rattle.defs.specs.Lists.{sameKeys}
 use Rattle.defs.specs.Tidy.{isUnder, entriesIn, nodesOf, tidyPool, tidyValues}
 use Rattle.defs.specs.Lemmas.{All}
@@ -35,14 +35,14 @@ pub tidy-holds : (w : List ℕ) (root : Prefix) → let es = view w root in
     map (λ e. record { at = e .at; value = getD (tidyValues es) (e .value) 0 }) (allEntries (tidyPool es)) ≡ es
 tidy-holds w root = holds-all (view w root) (view-sound w root)
 
--- So its entries have exactly the view's prefixes.
-pub tidy-prefixes : (w : List ℕ) (root : Prefix) → prefixes (allEntries (tidyPool (view w root))) ≡ prefixes (view w root)
-tidy-prefixes w root = same-prefixes (view w root) (view-sound w root)
-
--- The value list is the only one of its length that does so.
+-- No other value list of this length gives the view's entries.
 pub tidy-values-unique : (w : List ℕ) (root : Prefix) (vs : List ℕ) → let es = view w root in
     length vs ≡ length es → map (λ e. record { at = e .at; value = getD vs (e .value) 0 }) (allEntries (tidyPool es)) ≡ es → vs ≡ tidyValues es
 tidy-values-unique w root vs l h = values-fixed (view w root) (view-sound w root) vs l h
+
+-- So its entries have exactly the view's prefixes.
+pub tidy-prefixes : (w : List ℕ) (root : Prefix) → prefixes (allEntries (tidyPool (view w root))) ≡ prefixes (view w root)
+tidy-prefixes w root = same-prefixes (view w root) (view-sound w root)
 
 -- It has four words for each node.
 pub tidy-words : (es : List Entry) → length (tidyPool es) ≡ 4 * length (nodesOf es)
@@ -62,11 +62,11 @@ tidy-no-fault width w root h =
     no-fault (view w root) (view-sound w root) width (view-short width w root h) (le-trans (tidy-size width w root h) (formed width w h .most))
 
 -- Every node but the root, node 0, has an entry in it or below it.
-pub tidy-used : (es : List Entry) (i : ℕ) → 0 < i → i < length (nodesOf es) → isUnder es (getD (nodesOf es) i top) ≡ true
+pub tidy-used : (es : List Entry) (i : ℕ) → 0 < i → i < nodeCount (tidyPool es) → isUnder es (getD (nodesOf es) i top) ≡ true
 tidy-used es i s h =
     let e : 1 + (i - 1) ≡ i = omega arith in
     subst (λ (x : ℕ). isUnder es (getD (nodesOf es) x top) ≡ true) e
-    (ap (isUnder es) (sym (getD-drop 1 (nodesOf es) (i - 1) top)) ∙ all-at (all-used es) (i - 1) top (omega (arith, length-drop 1 (nodesOf es))))
+    (ap (isUnder es) (sym (getD-drop 1 (nodesOf es) (i - 1) top)) ∙ all-at (all-used es) (i - 1) top (omega (arith, length-drop 1 (nodesOf es), tidy-words es)))
 
 -- Two views with the same prefixes have one tidy pool.
 pub same-tidy : (w w′ : List ℕ) (root root′ : Prefix) → sameKeys (view w root) (view w′ root′) ≡ true → tidyPool (view w root) ≡ tidyPool (view w′ root′)
@@ -87,14 +87,14 @@ tidy-again-values w root = values-again (view w root) (view-sound w root)
 
 -- D7 in its own words: a well-formed pool of u32 words, of exactly these prefixes, in which every node but the root has an entry in it
 -- or below it. Thirteen levels reach below every node, and whether there is an entry does not hang on the prefix given.
-pub record Tidy (width : ℕ) (ps : List Prefix) (w : List ℕ) : Type 0 where
+pub record IsTidy (width : ℕ) (ps : List Prefix) (w : List ℕ) : Type 0 where
   pub fits : All (λ x. x < 2 ^ 32) w
   pub faultless : faultOf width w .number ≡ 0
   pub holds : prefixes (allEntries w) ≡ ps
   pub used : (i : ℕ) → 0 < i → i < nodeCount w → entriesAt w 13 i top ≡ [] → ⊥
 
 -- The tidy pool of a view of a well-formed pool is such a pool.
-pub tidy-is : (width : ℕ) (w : List ℕ) (root : Prefix) → width ≤ 64 → faultOf width w .number ≡ 0 → Tidy width (prefixes (view w root)) (tidyPool (view w root))
+pub tidy-is : (width : ℕ) (w : List ℕ) (root : Prefix) → width ≤ 64 → faultOf width w .number ≡ 0 → IsTidy width (prefixes (view w root)) (tidyPool (view w root))
 tidy-is width w root most h =
     record {
       fits = tidy-words-lt es (omega (arith, ap length (nodes-fix es s), few)) (omega (arith, values, values-small width pool ok (nodeCount pool) (omega arith), pool-nodes es s, few));
@@ -115,7 +115,7 @@ tidy-is width w root most h =
     ok : Formed width pool
     ok = formed width pool (tidy-no-fault width w root h)
 
-    few : length (nodesOf es) ≤ 65536
+    few : length (nodesOf es) ≤ poolLimit
     few = le-trans (tidy-size width w root h) (formed width w h .most)
 
     values : valuesBefore pool (nodeCount pool) ≡ length (each (entriesIn es) (nodesOf es))
@@ -124,5 +124,5 @@ tidy-is width w root most h =
         ∙ ap (λ (l : List Prefix). length (each (entriesIn es) l)) (take-length (nodesOf es))
 
 -- And there is no other: such a pool is, word for word, the tidy pool of any entries with these prefixes.
-pub tidy-unique : (width : ℕ) (es : List Entry) (w : List ℕ) → width ≤ 64 → Tidy width (prefixes es) w → w ≡ tidyPool es
+pub tidy-unique : (width : ℕ) (es : List Entry) (w : List ℕ) → width ≤ 64 → IsTidy width (prefixes es) w → w ≡ tidyPool es
 tidy-unique width es w most t = own-tidy width w most (formed width w (t .faultless)) (t .fits) (t .used) ∙ tidy-same (allEntries w) es (t .holds)
