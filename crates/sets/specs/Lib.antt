@@ -11,3 +11,6 @@ pub mod Loops
 pub mod Aligned
 -- A count of records fits.
 pub mod Bound
+-- A list call as a whole.
+pub mod Listing
+pub mod Beginning

@@ -1,4 +1,5 @@
 // The five lists over two views. One walk serves them all; each list's own rules are in the file of its name.
+mod call;
 pub mod covering_difference;
 pub mod covering_union;
 pub mod difference;

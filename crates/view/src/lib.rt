@@ -165,7 +165,7 @@ pub fn cover_at(words: &[u32], root: Prefix, node: Node, p: Prefix, above: Cover
 }
 
 // The first bits of a prefix.
-fn shortened(p: Prefix, len: u32) -> Prefix
+pub fn shortened(p: Prefix, len: u32) -> Prefix
     ensures { λ r. ⌜ r ≡ cutTo p len ⌝ }
 {
     Prefix {
