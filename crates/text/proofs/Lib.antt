@@ -1,0 +1,3 @@
+-- Facts that belong to no one function.
+pub mod NumberLaws
+pub mod LineLaws
