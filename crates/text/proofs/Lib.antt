@@ -1,3 +1,4 @@
 -- Facts that belong to no one function.
 pub mod NumberLaws
 pub mod LineLaws
+pub mod InputLaws

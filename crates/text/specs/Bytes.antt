@@ -1,7 +1,7 @@
 -- Bytes, text and lines.
 use mathlib.Core.Bool.{Bool, _&&_}
 use mathlib.Core.List.{List, [], _∷_}
-use Prim.Native.Nat.{ℕ, suc}
+use Prim.Native.Nat.{ℕ, zero, suc}
 use Prim.Native.Char.{Char, code}
 use Prim.Native.String.{String}
 use Prim.Native.String.{[] as nothing, _∷_ as _then_}
@@ -38,3 +38,12 @@ line s = if ltb (lineEnd s) (length s) then take (lineEnd s) s else []
 -- what stands after the first line
 abbrev pub rest : List ℕ → List ℕ
 rest s = drop (suc (lineEnd s)) s
+
+-- what stands after the first k lines
+abbrev pub skip : ℕ → List ℕ → List ℕ
+skip zero s = s
+skip (suc k) s = rest (skip k s)
+
+-- line k, from 0
+abbrev pub lineAt : ℕ → List ℕ → List ℕ
+lineAt k s = line (skip k s)

@@ -16,8 +16,8 @@ use Rattle.defs.specs.declared.Operation.the-variants.{CoveringUnion}
 use Rattle.text.specs.declared.Call.the-variants.{Listing, Equality}
 use Rattle.text.specs.declared.Request.{Request}
 use Rattle.text.specs.declared.Request.the-variants.{Good, Bad}
-use Rattle.text.specs.Bytes.{bytes}
-use Rattle.text.specs.Input.{topOf, afterTop, afterHead, roomOf, readOutcome}
+use Rattle.text.specs.Bytes.{bytes, skip}
+use Rattle.text.specs.Input.{topOf, afterHead, roomOf, readOutcome}
 use Rattle.text.specs.Output.{outputOf}
 
 -- the top of an input: width 32, covering-union, both roots 0/0
@@ -130,5 +130,5 @@ most-nodes = (refl, refl, refl)
 pub too-long : (s l r : List ℕ) → 65536 < length s → readOutcome s l r ≡ record { request = Bad 0; left = l; right = r }
 too-long s l r h = rw (lt-ltb 65536 (length s) h)
 
-pub not-too-long : (s l r : List ℕ) → length s ≤ 65536 → readOutcome s l r ≡ afterHead (topOf s) (afterTop s) l r
+pub not-too-long : (s l r : List ℕ) → length s ≤ 65536 → readOutcome s l r ≡ afterHead (topOf s) (skip 4 s) l r
 not-too-long s l r h = rw (le-ltb 65536 (length s) h)

@@ -26,7 +26,7 @@ use Rattle.text.specs.declared.Top.the-variants as top
 use Rattle.text.specs.declared.Said.{Said}
 use Rattle.text.specs.declared.Request.{Request}
 use Rattle.text.specs.declared.Request.the-variants as request
-use Rattle.text.specs.Bytes.{bytes, tab, isAt, line, rest}
+use Rattle.text.specs.Bytes.{bytes, tab, isAt, line, rest, skip, lineAt}
 use Rattle.text.specs.Numbers.{decimalOf, hexOf}
 
 -- a line starts with this letter and a tab
@@ -82,11 +82,7 @@ headOf (number.Is w) (asked.Is c) (root.Is l) (root.Is r) = top.Good (record { w
 
 -- the lines W, O, L and R, with which an input starts
 abbrev pub topOf : List ℕ → Top
-topOf s = headOf (widthLine (line s)) (callLine (line (rest s))) (rootLine 76 (line (rest (rest s)))) (rootLine 82 (line (rest (rest (rest s)))))
-
--- what follows them
-abbrev pub afterTop : List ℕ → List ℕ
-afterTop s = rest (rest (rest (rest s)))
+topOf s = headOf (widthLine (lineAt 0 s)) (callLine (lineAt 1 s)) (rootLine 76 (lineAt 2 s)) (rootLine 82 (lineAt 3 s))
 
 -- the node lines of one side: the words of its pool, and what follows the lines
 pub record Side : Type 0 where
@@ -145,4 +141,4 @@ afterHead (top.Good h) s left right =
 abbrev pub readOutcome : List ℕ → List ℕ → List ℕ → Outcome
 readOutcome s left right =
     if ltb 65536 (length s) then record { request = request.Bad 0; left = left; right = right }
-    else afterHead (topOf s) (afterTop s) left right
+    else afterHead (topOf s) (skip 4 s) left right

@@ -3,5 +3,7 @@ pub mod Bytes
 pub mod Numbers
 pub mod Input
 pub mod Output
+-- What parts of the reader promise each other.
+pub mod Parts
 -- Worked examples, computed.
 pub mod Examples

@@ -1,5 +1,6 @@
 // Reading and writing of the text program, on slices. What is right is said in specs/.
 mod digits;
+pub mod input;
 mod lines;
 
 use defs::Operation;
@@ -47,6 +48,12 @@ pub struct Head {
 pub enum Top {
     Good(Head),
     Bad(u64),
+}
+
+// The node lines of one side: how many words they make, and where the next line starts.
+pub struct Part {
+    pub words: usize,
+    pub next: usize,
 }
 
 // What a good input says: its top, and how many words of the lent buffers are the left and the right pool.
