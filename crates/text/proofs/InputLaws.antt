@@ -1,16 +1,15 @@
 -- The loops of the reader, and how its parts make the whole.
-use mathlib.Core.Path.{_≡_, refl, sym, _∙_, ap, ap₂, subst}
+use mathlib.Core.Path.{_≡_, refl, sym, _∙_, ap, ap₂}
 use mathlib.Core.Bool.{_&&_}
 use mathlib.Core.List.{List, [], _∷_, _++_, append-assoc, append-nil}
 use Prim.Native.Nat.{ℕ, zero, suc, _+_, _-_, _*_, _/_, _%_, _^_, _<_, _≤_, min}
 use native.Mathlib.Nat.{pow-suc}
 use native.Mathlib.Omega.{arith}
 use native.Mathlib.Numerals.{add-one}
-use lib.Dec.{eqb}
 use lib.Count.{onesIn, ones-step, ones-le}
 use lib.Count.{ones as countOnes}
-use lib.ListN.{length, getD, take, drop, set, length-append, length-take, length-drop, drop-of-length-le, take-append-drop}
-use lib.Seq.{drop-drop, take-all, take-at, drop-at, length-take-le}
+use lib.ListN.{length, take, drop, set, length-append, length-drop, take-append-drop}
+use lib.Seq.{drop-drop, take-at, drop-at, length-take-le}
 use borrow.Author.Tests.{eq-eqb, ne-eqb, le-ltb, lt-ltb}
 use borrow.Rule.Slice.PartMut.{putMid}
 use Rattle.defs.specs.Lemmas.{split}
@@ -49,6 +48,7 @@ use Rattle.text.specs.Input.{
 use Rattle.text.specs.Parts.{IsSide}
 use Rattle.text.proofs.NumberLaws.{hex-below}
 use Rattle.text.proofs.LineLaws.{decimal-below}
+use Rattle.text.proofs.BufferLaws.{back, lent}
 
 -- the count of ones that the machine gives is that of a word's 32 bits
 pub count-ones : (k n : ℕ) → n < 2 ^ k → countOnes n ≡ onesIn k n
@@ -63,16 +63,6 @@ four-words (_ ∷ []) a b c d h = absurd (omega arith)
 four-words (_ ∷ _ ∷ []) a b c d h = absurd (omega arith)
 four-words (_ ∷ _ ∷ _ ∷ []) a b c d h = absurd (omega arith)
 four-words (_ ∷ _ ∷ _ ∷ _ ∷ l) a b c d h = refl
-
--- the part of a buffer that is lent from a place on has its new words when it is back
-module _ (l : List ℕ) (at : ℕ) (within : at ≤ length l) where
-  pub back : (new : List ℕ) → putMid at (length l - at) l new ≡ take at l ++ new
-  back new =
-      ap (λ (t : List ℕ). take at l ++ (new ++ t)) (drop-of-length-le (drop at l) (let e : length (drop at l) ≤ length l - at = omega (arith, length-drop at l) in e))
-      ∙ ap (λ (t : List ℕ). take at l ++ t) (append-nil new)
-
-  pub lent : take (length l - at) (drop at l) ≡ drop at l
-  lent = take-all (length l - at) (drop at l) (omega (arith, length-drop at l))
 
 -- the start of line i has been found
 pub record Skipping (s : List ℕ) (k at i : ℕ) : Type 0 where

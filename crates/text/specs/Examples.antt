@@ -3,7 +3,6 @@ use mathlib.Core.Path.{_≡_, refl}
 use mathlib.Core.Bool.{Bool}
 use mathlib.Core.List.{List, [], _∷_, _++_}
 use Prim.Native.Nat.{ℕ, _<_, _≤_}
-use Prim.Native.String.{String}
 use lib.Count.{onesIn}
 use lib.Dec.{T, eqb}
 use lib.ListN.{length, replicate}

@@ -7,12 +7,9 @@ use lib.ListN.{length, take, drop}
 use Rattle.defs.specs.Basics.{if_then_else_}
 use Rattle.defs.specs.Pool.{ones, nodeCount}
 use Rattle.defs.specs.Cases.{sameWords}
-use Rattle.defs.specs.declared.Prefix.{Prefix}
-use Rattle.defs.specs.declared.Operation.{Operation}
 use Rattle.defs.specs.declared.Operation.the-variants.{Union, Intersection, Difference, CoveringDifference, CoveringUnion}
 use Rattle.text.specs.declared.Number.{Number}
 use Rattle.text.specs.declared.Number.the-variants as number
-use Rattle.text.specs.declared.Call.{Call}
 use Rattle.text.specs.declared.Call.the-variants.{Listing, Equality}
 use Rattle.text.specs.declared.Asked.{Asked}
 use Rattle.text.specs.declared.Asked.the-variants as asked
@@ -23,7 +20,6 @@ use Rattle.text.specs.declared.Node.the-variants as node
 use Rattle.text.specs.declared.Head.{Head}
 use Rattle.text.specs.declared.Top.{Top}
 use Rattle.text.specs.declared.Top.the-variants as top
-use Rattle.text.specs.declared.Said.{Said}
 use Rattle.text.specs.declared.Request.{Request}
 use Rattle.text.specs.declared.Request.the-variants as request
 use Rattle.text.specs.Bytes.{bytes, tab, isAt, line, rest, skip, lineAt}

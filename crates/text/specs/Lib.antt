@@ -7,3 +7,5 @@ pub mod Output
 pub mod Parts
 -- Worked examples, computed.
 pub mod Examples
+-- How long an output can be.
+pub mod Room

@@ -26,11 +26,11 @@ markField mark n = if eqb n mark then tab ∷ 45 ∷ [] else numberField n
 
 -- tag, key and length of a record
 abbrev pub prefixText : ℕ → ℕ → ℕ → List ℕ
-prefixText key len tag = letterOf tag ∷ (tab ∷ hexText key) ++ numberField len
+prefixText key len tag = (letterOf tag ∷ tab ∷ hexText key) ++ numberField len
 
 -- left value, right value and cover length of a record, and the end of its line
 abbrev pub valuesText : ℕ → ℕ → ℕ → List ℕ
-valuesText left right cover = markField missing left ++ (markField missing right ++ (markField noCover cover ++ (feed ∷ [])))
+valuesText left right cover = ((markField missing left ++ markField missing right) ++ markField noCover cover) ++ (feed ∷ [])
 
 -- the line of the record in the first six words
 abbrev pub recordLine : List ℕ → List ℕ
@@ -43,7 +43,7 @@ recordLines (suc k) w = recordLine w ++ recordLines k (drop recordWords w)
 
 -- the E line: the refusal number and the number beside it
 abbrev pub endLine : ℕ → ℕ → List ℕ
-endLine number beside = 69 ∷ numberField number ++ (numberField beside ++ (feed ∷ []))
+endLine number beside = ((69 ∷ numberField number) ++ numberField beside) ++ (feed ∷ [])
 
 -- how many of the records in the words are shown: those of a list that is done; equality and refusals show none
 abbrev pub shownOf : Call → Answer → List ℕ → ℕ

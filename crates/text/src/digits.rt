@@ -1,8 +1,7 @@
 // Numbers as digits: reading and spelling them.
 ghost use mathlib.Core.Path.{_≡_};
-ghost use mathlib.Core.List.{[], _∷_};
-ghost use Prim.Native.Nat.{_+_, _*_, _<_, _≤_, _^_};
-ghost use lib.ListN.{length};
+ghost use Prim.Native.Nat.{_+_, _*_, _<_, _≤_};
+ghost use lib.ListN.{length, take};
 ghost use Rattle.text.specs.Bytes.{isAt};
 ghost use Rattle.text.specs.Numbers.{digitOf, behind, numeralOf, atMost, leadingZero, decimalOf, hexOf, glyphOf, digits, placesIn};
 use crate::Number;
@@ -108,5 +107,40 @@ pub(crate) fn hex(s: &[u8], count: usize) -> Number
         numeral(s, 16, 18446744073709551615)
     } else {
         Number::Not
+    }
+}
+
+// A digit below 16 as a byte.
+fn glyph(d: u64) -> u8
+    requires { ⌜ d < 16 ⌝ }
+    ensures { λ r. ⌜ r ≡ glyphOf d ⌝ }
+{
+    if d < 10 { 48 + d as u8 } else { 87 + d as u8 }
+}
+
+// How many decimal digits n has.
+pub(crate) fn places(n: u64) -> usize
+    ensures { λ r. ⌜ (r ≡ placesIn 19 n) × (r ≤ 20) ⌝ }
+{
+    let mut k = 1;
+    let mut left = n;
+    while 10 <= left {
+        left /= 10;
+        k += 1;
+    }
+    k
+}
+
+// Puts the last k digits of n at the front of a buffer, the last one first.
+pub(crate) fn spell(n: u64, base: u64, k: usize, out: &mut [u8])
+    requires { ⌜ (0 < base) × (base ≤ 16) × (k ≤ length (now out)) ⌝ }
+    ensures { λ _. ⌜ take k (now (out .exit)) ≡ digits base k n ⌝ }
+{
+    let mut i = k;
+    let mut left = n;
+    while 0 < i {
+        i -= 1;
+        out[i] = glyph(left % base);
+        left /= base;
     }
 }

@@ -2,6 +2,7 @@
 mod digits;
 pub mod input;
 mod lines;
+pub mod output;
 
 use defs::Operation;
 use defs::Prefix;

@@ -1,6 +1,5 @@
 use borrow.Author.Needs.{needs}
-use mathlib.Core.Path.{sym, _∙_, ap}
-use borrow.Author.Tests.{lt-ltb, le-ltb}
+use mathlib.Core.Path.{sym, _∙_}
 use Rattle.text.proofs.NumberLaws.{behind-none, behind-one, behind-other}
 use Rattle.text.proofs.digits.more.Statement.{statement}
 use Rattle.text.proofs.digits.more.Tie as tie

@@ -1,5 +1,5 @@
 use borrow.Author.Needs.{needs}
-use mathlib.Core.Path.{sym, _∙_, ap}
+use mathlib.Core.Path.{sym, _∙_}
 use Rattle.text.proofs.InputLaws.{read-too-long, read-top}
 use Rattle.text.proofs.input.read.Statement.{statement}
 use Rattle.text.proofs.input.read.Tie as tie

@@ -3,7 +3,8 @@ use mathlib.Core.Path.{sym, _∙_, ap}
 use native.Mathlib.Omega.{arith}
 use lib.ListN.{length-drop}
 use Rattle.text.specs.Input.{nodeLine}
-use Rattle.text.proofs.InputLaws.{Filling, fill-start, fill-no-room, fill-bad, fill-on, child-more, value-more, lent}
+use Rattle.text.proofs.InputLaws.{Filling, fill-start, fill-no-room, fill-bad, fill-on, child-more, value-more}
+use Rattle.text.proofs.BufferLaws.{lent}
 use Rattle.text.proofs.input.side.Statement.{statement}
 use Rattle.text.proofs.input.side.Tie as tie
 

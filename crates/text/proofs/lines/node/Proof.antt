@@ -1,5 +1,4 @@
 use borrow.Author.Needs.{needs}
-use mathlib.Core.Path.{sym}
 use native.Mathlib.Omega.{arith}
 use Rattle.text.proofs.LineLaws.{below-is}
 use Rattle.text.proofs.lines.node.Statement.{statement}
