@@ -7,7 +7,7 @@ use native.Mathlib.Omega.{arith}
 use lib.ListN.{length, take, drop, set, length-take, length-set, drop-of-length-le}
 use lib.Seq.{length-take-le, take-set-lt, set-split, drop-at}
 use borrow.Author.Tests.{lt-ltb, le-ltb}
-use Rattle.text.specs.Numbers.{glyphOf, digits, placesIn}
+use Rattle.text.specs.Numbers.{glyphOf, digits, placesIn, placesOf}
 
 -- the digits before place i are still to come
 pub record Spelling (n base k : ℕ) (old out : List ℕ) (i left : ℕ) : Type 0 where
@@ -85,5 +85,6 @@ one-place : (fuel left : ℕ) → left < 10 → placesIn fuel left ≡ 1
 one-place zero left h = refl
 one-place (suc fuel) left h = rw (lt-ltb left 10 h)
 
-pub place-all : (n k left : ℕ) → Placing n k left → left < 10 → (k ≡ placesIn 19 n) × (k ≤ 20)
+pub place-all : (n k left : ℕ) → Placing n k left → left < 10 → (k ≡ placesOf n) × (k ≤ 20)
+unfolding placesOf
 place-all n k left r h = (omega (arith, r .so-far, one-place (r .fuel) left h), omega (arith, r .sum))

@@ -16,6 +16,7 @@ use Rattle.text.specs.declared.Call.the-variants.{Listing, Equality}
 use Rattle.text.specs.declared.Request.{Request}
 use Rattle.text.specs.declared.Request.the-variants.{Good, Bad}
 use Rattle.text.specs.Bytes.{bytes, skip}
+use Rattle.text.specs.Numbers.{placesOf, hexText}
 use Rattle.text.specs.Input.{topOf, afterHead, roomOf, readOutcome}
 use Rattle.text.specs.Output.{outputOf}
 
@@ -48,16 +49,20 @@ records =
 pub example-written :
     outputOf (Listing CoveringUnion) (answer 0 5 0) (records ++ 7 ∷ 7 ∷ 7 ∷ 7 ∷ 7 ∷ 7 ∷ 7 ∷ [])
     ≡ bytes "L\t0000000000000000\t0\t0\t-\t-\nL\t0a00000000000000\t8\t1\t-\t-\nR\t0a00000000000000\t9\t1\t1\t8\nB\t0a80000000000000\t9\t2\t2\t-\nR\t8000000000000000\t1\t0\t0\t0\nE\t0\t5\n"
+unfolding placesOf hexText
 example-written = refl
 
 -- equality and refusals write only the E line
 pub equality-written : outputOf Equality (answer 0 1 0) records ≡ bytes "E\t0\t1\n"
+unfolding placesOf hexText
 equality-written = refl
 
 pub refusal-written : outputOf (Listing CoveringUnion) (answer 6 513 0) records ≡ bytes "E\t6\t513\n"
+unfolding placesOf hexText
 refusal-written = refl
 
 pub largest-written : outputOf Equality (answer 9 18446744073709551615 0) [] ≡ bytes "E\t9\t18446744073709551615\n"
+unfolding placesOf hexText
 largest-written = refl
 
 -- an input, and its first bad line

@@ -64,10 +64,14 @@ abbrev pub placesIn : ℕ → ℕ → ℕ
 placesIn zero n = 1
 placesIn (suc k) n = if ltb n 10 then 1 else suc (placesIn k (n / 10))
 
+-- how many decimal digits a number of 64 bits has
+unfoldable pub placesOf : ℕ → ℕ
+placesOf n = placesIn 19 n
+
 -- a number of 64 bits in decimal
 abbrev pub decimalText : ℕ → List ℕ
-decimalText n = digits 10 (placesIn 19 n) n
+decimalText n = digits 10 (placesOf n) n
 
 -- a number of 64 bits as 16 hex digits
-abbrev pub hexText : ℕ → List ℕ
+unfoldable pub hexText : ℕ → List ℕ
 hexText n = digits 16 16 n

@@ -11,7 +11,7 @@ use Rattle.defs.specs.Lemmas.{split}
 use Rattle.defs.specs.declared.Answer.{Answer}
 use Rattle.text.specs.declared.Call.{Call}
 use Rattle.text.specs.declared.Call.the-variants.{Listing, Equality}
-use Rattle.text.specs.Numbers.{glyphOf, digits, placesIn, hexText}
+use Rattle.text.specs.Numbers.{glyphOf, digits, placesIn, placesOf, hexText}
 use Rattle.text.specs.Output.{letterOf, numberField, markField, prefixText, valuesText, recordLines, endLine, shownOf, outputOf, Wrote}
 
 digits-long : (base k n : ℕ) → length (digits base k n) ≡ k
@@ -23,12 +23,14 @@ places-few zero n = omega arith
 places-few (suc k) n = split (ltb n 10) (λ b. rw b (omega arith)) (λ b. rw b (omega (arith, places-few k (n / 10))))
 
 number-short : (n : ℕ) → length (numberField n) ≤ 21
-number-short n = omega (arith, digits-long 10 (placesIn 19 n) n, places-few 19 n)
+unfolding placesOf
+number-short n = omega (arith, digits-long 10 (placesOf n) n, places-few 19 n)
 
 mark-short : (mark n : ℕ) → length (markField mark n) ≤ 21
 mark-short mark n = split (eqb n mark) (λ b. rw b (omega arith)) (λ b. rw b (number-short n))
 
 prefix-short : (key len tag : ℕ) → length (prefixText key len tag) ≤ 39
+unfolding hexText
 prefix-short key len tag = omega (arith, length-append (letterOf tag ∷ 9 ∷ hexText key) (numberField len), digits-long 16 16 key, number-short len)
 
 values-short : (l r c : ℕ) → length (valuesText l r c) ≤ 64

@@ -3,7 +3,7 @@ ghost use mathlib.Core.Path.{_≡_};
 ghost use Prim.Native.Nat.{_+_, _*_, _<_, _≤_};
 ghost use lib.ListN.{length, take};
 ghost use Rattle.text.specs.Bytes.{isAt};
-ghost use Rattle.text.specs.Numbers.{digitOf, behind, numeralOf, atMost, leadingZero, decimalOf, hexOf, glyphOf, digits, placesIn};
+ghost use Rattle.text.specs.Numbers.{digitOf, behind, numeralOf, atMost, leadingZero, decimalOf, hexOf, glyphOf, digits, placesOf};
 use crate::Number;
 
 // Whether byte b stands at place i.
@@ -120,7 +120,7 @@ fn glyph(d: u64) -> u8
 
 // How many decimal digits n has.
 pub(crate) fn places(n: u64) -> usize
-    ensures { λ r. ⌜ (r ≡ placesIn 19 n) × (r ≤ 20) ⌝ }
+    ensures { λ r. ⌜ (r ≡ placesOf n) × (r ≤ 20) ⌝ }
 {
     let mut k = 1;
     let mut left = n;

@@ -2,6 +2,7 @@ use borrow.Author.Needs.{needs}
 use mathlib.Core.Path.{sym}
 use lib.Seq.{length-take-le}
 use native.Mathlib.Omega.{arith}
+use Rattle.text.specs.Numbers.{hexText}
 use Rattle.text.proofs.BufferLaws.{wrote-next, wrote-is}
 use Rattle.text.proofs.output.put_key.Statement.{statement}
 use Rattle.text.proofs.output.put_key.Tie as tie
@@ -40,6 +41,7 @@ same-length : tie.Need-same-length
 same-length c = search needs
 
 returns : tie.Need-returns
+unfolding hexText
 returns c = wrote-next _ _ _ _ (c .before .before .before .before .before .before .before .put-byte .ensures) _ _ _ (wrote-is (c .before .before .put .ensures) (c .before .before .before .before .before .before .before .before .before .before .spell .ensures))
 
 pub put-key-spec : {M : Type 1} → statement M
