@@ -29,7 +29,7 @@ module _ (c : ℕ) where
   pub digit-between : 57 < c → c < 97 → Not ≡ digitOf c
   digit-between h k = rw (le-leb 48 c (omega arith), lt-leb c 57 h, lt-leb 97 c k)
 
-  pub digit-letter : 97 ≤ c → c ≤ 102 → Is (c - 87) ≡ digitOf c
+  pub digit-letter : 97 ≤ c → c ≤ 102 → Is (c - 97 + 10) ≡ digitOf c
   digit-letter h k = rw (le-leb 48 c (omega arith), lt-leb c 57 (omega arith), le-leb 97 c h, le-leb c 102 k)
 
   pub digit-above : 102 < c → Not ≡ digitOf c

@@ -16,11 +16,11 @@ bytes (c then s) = code c ∷ bytes s
 
 -- the byte that parts fields
 abbrev pub tab : ℕ
-tab = 9
+tab = code "\t"
 
 -- the byte that closes a line
 abbrev pub feed : ℕ
-feed = 10
+feed = code "\n"
 
 -- byte b stands at place i
 abbrev pub isAt : ℕ → ℕ → List ℕ → Bool

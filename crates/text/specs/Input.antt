@@ -2,6 +2,7 @@
 use mathlib.Core.Bool.{Bool, _&&_}
 use mathlib.Core.List.{List, [], _∷_, _++_}
 use Prim.Native.Nat.{ℕ, zero, suc, _+_, _/_, min}
+use Prim.Native.Char.{code}
 use lib.Dec.{ltb, eqb}
 use lib.ListN.{length, take, drop}
 use Rattle.defs.specs.Basics.{if_then_else_}
@@ -31,7 +32,7 @@ starts letter s = isAt 0 letter s && isAt 1 tab s
 
 -- line W: the width
 abbrev pub widthLine : List ℕ → Number
-widthLine s = if starts 87 s then decimalOf (drop 2 s) else number.Not
+widthLine s = if starts (code "W") s then decimalOf (drop 2 s) else number.Not
 
 -- the operations by name
 abbrev pub callOf : List ℕ → Asked
@@ -46,7 +47,7 @@ callOf s =
 
 -- line O: the operation
 abbrev pub callLine : List ℕ → Asked
-callLine s = if starts 79 s then callOf (drop 2 s) else asked.Not
+callLine s = if starts (code "O") s then callOf (drop 2 s) else asked.Not
 
 -- a root from its key and length
 abbrev pub rootOf : Number → Number → Root
@@ -78,7 +79,7 @@ headOf (number.Is w) (asked.Is c) (root.Is l) (root.Is r) = top.Good (record { w
 
 -- the lines W, O, L and R, with which an input starts
 abbrev pub topOf : List ℕ → Top
-topOf s = headOf (widthLine (lineAt 0 s)) (callLine (lineAt 1 s)) (rootLine 76 (lineAt 2 s)) (rootLine 82 (lineAt 3 s))
+topOf s = headOf (widthLine (lineAt 0 s)) (callLine (lineAt 1 s)) (rootLine (code "L") (lineAt 2 s)) (rootLine (code "R") (lineAt 3 s))
 
 -- the node lines of one side: the words of its pool, and what follows the lines
 pub record Side : Type 0 where
@@ -129,8 +130,8 @@ nodesRead h l r left right = record { request = requestOf h l r; left = over (l 
 abbrev pub afterHead : Top → List ℕ → List ℕ → List ℕ → Outcome
 afterHead (top.Bad n) s left right = record { request = request.Bad n; left = left; right = right }
 afterHead (top.Good h) s left right =
-    let l = sideOf 108 (roomOf left) 1 0 s in
-    let r = sideOf 114 (roomOf right) 1 0 (l .left-over) in
+    let l = sideOf (code "l") (roomOf left) 1 0 s in
+    let r = sideOf (code "r") (roomOf right) 1 0 (l .left-over) in
     nodesRead h l r left right
 
 -- reading an input into two lent buffers; an input longer than 65,536 bytes is line 0

@@ -2,6 +2,7 @@
 use mathlib.Core.Bool.{Bool, _&&_, _||_}
 use mathlib.Core.List.{List, [], _∷_, _++_}
 use Prim.Native.Nat.{ℕ, zero, suc, _+_, _-_, _*_, _/_, _%_, _<_}
+use Prim.Native.Char.{code}
 use lib.Dec.{ltb, leb, eqb}
 use lib.ListN.{length}
 use Rattle.defs.specs.Basics.{if_then_else_}
@@ -11,7 +12,7 @@ use Rattle.text.specs.Bytes.{isAt}
 
 -- the value of the digits 0 to 9 and a to f
 abbrev pub digitOf : ℕ → Number
-digitOf c = if leb 48 c && leb c 57 then Is (c - 48) else if leb 97 c && leb c 102 then Is (c - 87) else Not
+digitOf c = if leb (code "0") c && leb c (code "9") then Is (c - code "0") else if leb (code "a") c && leb c (code "f") then Is (c - code "a" + 10) else Not
 
 -- the number n with a digit behind it, where the digit is one of the base
 abbrev pub behind : ℕ → ℕ → Number → Number
@@ -35,7 +36,7 @@ atMost most Not = Not
 
 -- a digit stands behind a first 0
 abbrev pub leadingZero : List ℕ → Bool
-leadingZero s = isAt 0 48 s && ltb 1 (length s)
+leadingZero s = isAt 0 (code "0") s && ltb 1 (length s)
 
 -- a number, if it is one, is below a limit
 abbrev pub Below : ℕ → Number → Type 0
@@ -52,7 +53,7 @@ hexOf count s = if eqb (length s) count then numeralOf 16 0 s else Not
 
 -- a digit below 16 as a byte
 abbrev pub glyphOf : ℕ → ℕ
-glyphOf d = if ltb d 10 then 48 + d else 87 + d
+glyphOf d = if ltb d 10 then code "0" + d else code "a" + (d - 10)
 
 -- the last k digits of n, the highest first
 abbrev pub digits : ℕ → ℕ → ℕ → List ℕ

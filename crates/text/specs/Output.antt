@@ -2,6 +2,7 @@
 use mathlib.Core.List.{List, [], _∷_, _++_}
 use mathlib.Core.Path.{_≡_}
 use Prim.Native.Nat.{ℕ, zero, suc, _/_, min}
+use Prim.Native.Char.{code}
 use lib.Dec.{eqb}
 use lib.ListN.{length, getD, take, drop}
 use Rattle.defs.specs.Basics.{if_then_else_}
@@ -14,7 +15,7 @@ use Rattle.text.specs.Numbers.{decimalText, hexText}
 
 -- the letter of a tag: L for 1, R for 2, and B for 3 and any other
 abbrev pub letterOf : ℕ → ℕ
-letterOf tag = if eqb tag 1 then 76 else if eqb tag 2 then 82 else 66
+letterOf tag = if eqb tag 1 then code "L" else if eqb tag 2 then code "R" else code "B"
 
 -- a tab and a number
 abbrev pub numberField : ℕ → List ℕ
@@ -22,7 +23,7 @@ numberField n = tab ∷ decimalText n
 
 -- a tab and a number, or - where it is the mark of a missing one
 abbrev pub markField : ℕ → ℕ → List ℕ
-markField mark n = if eqb n mark then tab ∷ 45 ∷ [] else numberField n
+markField mark n = if eqb n mark then tab ∷ code "-" ∷ [] else numberField n
 
 -- tag, key and length of a record
 abbrev pub prefixText : ℕ → ℕ → ℕ → List ℕ
@@ -43,7 +44,7 @@ recordLines (suc k) w = recordLine w ++ recordLines k (drop recordWords w)
 
 -- the E line: the refusal number and the number beside it
 abbrev pub endLine : ℕ → ℕ → List ℕ
-endLine number beside = ((69 ∷ numberField number) ++ numberField beside) ++ (feed ∷ [])
+endLine number beside = ((code "E" ∷ numberField number) ++ numberField beside) ++ (feed ∷ [])
 
 -- how many of the records in the words are shown: those of a list that is done; equality and refusals show none
 abbrev pub shownOf : Call → Answer → List ℕ → ℕ

@@ -17,17 +17,17 @@ pub(crate) fn is_at(s: &[u8], i: usize, b: u8) -> bool
 fn digit(c: u8) -> Number
     ensures { λ r. ⌜ r ≡ digitOf c ⌝ }
 {
-    if c < 48 {
+    if c < b'0' {
         return Number::Not;
     }
-    if c <= 57 {
-        return Number::Is((c - 48) as u64);
+    if c <= b'9' {
+        return Number::Is((c - b'0') as u64);
     }
-    if c < 97 {
+    if c < b'a' {
         return Number::Not;
     }
-    if c <= 102 {
-        return Number::Is((c - 87) as u64);
+    if c <= b'f' {
+        return Number::Is((c - b'a' + 10) as u64);
     }
     Number::Not
 }
@@ -82,7 +82,11 @@ fn numeral(s: &[u8], base: u64, most: u64) -> Number
 fn leading_zero(s: &[u8]) -> bool
     ensures { λ r. ⌜ r ≡ leadingZero (now (s .entry)) ⌝ }
 {
-    if is_at(s, 0, 48) { 1 < s.len() } else { false }
+    if is_at(s, 0, b'0') {
+        1 < s.len()
+    } else {
+        false
+    }
 }
 
 // A decimal number without leading zeros, at most 255.
@@ -115,7 +119,11 @@ fn glyph(d: u64) -> u8
     requires { ⌜ d < 16 ⌝ }
     ensures { λ r. ⌜ r ≡ glyphOf d ⌝ }
 {
-    if d < 10 { 48 + d as u8 } else { 87 + d as u8 }
+    if d < 10 {
+        b'0' + d as u8
+    } else {
+        b'a' + (d - 10) as u8
+    }
 }
 
 // How many decimal digits n has.

@@ -76,8 +76,8 @@ fn top(input: &[u8]) -> Top
 {
     let width = width_line(line_at(input, 0));
     let call = call_line(line_at(input, 1));
-    let left = root_line(line_at(input, 2), 76);
-    let right = root_line(line_at(input, 3), 82);
+    let left = root_line(line_at(input, 2), b'L');
+    let right = root_line(line_at(input, 3), b'R');
     head(width, call, left, right)
 }
 
@@ -129,9 +129,9 @@ fn nodes(input: &[u8], head: Head, left: &mut [u32], right: &mut [u32]) -> Reque
     ensures { λ r. ⌜ afterHead (Top.Good head) (skip 4 (now (input .entry))) (now (left .entry)) (now (right .entry)) ≡ record { request = r; left = now (left .exit); right = now (right .exit) } ⌝ }
 {
     let at = start_of(input, 4);
-    let l = side(input, at, 108, left);
+    let l = side(input, at, b'l', left);
     let next = l.next;
-    let r = side(input, next, 114, right);
+    let r = side(input, next, b'r', right);
     if r.next == input.len() {
         return Request::Good(Said {
             head,

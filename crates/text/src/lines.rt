@@ -25,7 +25,7 @@ fn line_end(input: &[u8], at: usize) -> usize
 {
     let mut i = at;
     while i < input.len() {
-        if input[i] == 10 {
+        if input[i] == b'\n' {
             return i;
         }
         i += 1;
@@ -60,7 +60,7 @@ fn starts(line: &[u8], letter: u8) -> bool
     ensures { λ r. ⌜ r ≡ startsWith letter (now (line .entry)) ⌝ }
 {
     if is_at(line, 0, letter) {
-        is_at(line, 1, 9)
+        is_at(line, 1, b'\t')
     } else {
         false
     }
@@ -70,7 +70,7 @@ fn starts(line: &[u8], letter: u8) -> bool
 pub(crate) fn width_line(line: &[u8]) -> Number
     ensures { λ r. ⌜ r ≡ widthLine (now (line .entry)) ⌝ }
 {
-    if starts(line, 87) {
+    if starts(line, b'W') {
         return decimal(&line[2..]);
     }
     Number::Not
@@ -122,7 +122,7 @@ fn call(name: &[u8]) -> Asked
 pub(crate) fn call_line(line: &[u8]) -> Asked
     ensures { λ r. ⌜ r ≡ callLine (now (line .entry)) ⌝ }
 {
-    if starts(line, 79) {
+    if starts(line, b'O') {
         return call(&line[2..]);
     }
     Asked::Not
@@ -150,7 +150,7 @@ pub(crate) fn root_line(line: &[u8], letter: u8) -> Root
     ensures { λ r. ⌜ r ≡ rootLine letter (now (line .entry)) ⌝ }
 {
     if starts(line, letter) {
-        if is_at(line, 18, 9) {
+        if is_at(line, 18, b'\t') {
             let key = hex(&line[2..18], 16);
             return root(key, decimal(&line[19..]));
         }
@@ -178,7 +178,7 @@ pub(crate) fn node_line(line: &[u8], letter: u8) -> Node
     ensures { λ r. ⌜ r ≡ nodeLine letter (now (line .entry)) ⌝ }
 {
     if starts(line, letter) {
-        if is_at(line, 10, 9) {
+        if is_at(line, 10, b'\t') {
             let d = hex(&line[2..10], 8);
             return node(d, hex(&line[11..], 8));
         }

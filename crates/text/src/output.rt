@@ -52,7 +52,7 @@ fn put_number(n: u64, out: &mut [u8]) -> usize
     let mut text = [0u8; 20];
     let k = places(n);
     spell(n, 10, k, &mut text);
-    let at = put_byte(9, out);
+    let at = put_byte(b'\t', out);
     at + put(&text[..k], &mut out[at..])
 }
 
@@ -62,7 +62,7 @@ fn put_key(n: u64, out: &mut [u8]) -> usize
 {
     let mut text = [0u8; 20];
     spell(n, 16, 16, &mut text);
-    let at = put_byte(9, out);
+    let at = put_byte(b'\t', out);
     at + put(&text[..16], &mut out[at..])
 }
 
@@ -81,9 +81,9 @@ fn letter(tag: u64) -> u8
     ensures { λ r. ⌜ r ≡ letterOf tag ⌝ }
 {
     match tag {
-        1 => 76,
-        2 => 82,
-        _ => 66,
+        1 => b'L',
+        2 => b'R',
+        _ => b'B',
     }
 }
 
@@ -105,7 +105,7 @@ fn put_values(left: u64, right: u64, cover: u64, out: &mut [u8]) -> usize
     let a = put_mark(no_value, left, out);
     let b = a + put_mark(no_value, right, &mut out[a..]);
     let c = b + put_mark(no_cover, cover, &mut out[b..]);
-    c + put_byte(10, &mut out[c..])
+    c + put_byte(b'\n', &mut out[c..])
 }
 
 // Writes the line of the record in the first six words.
@@ -138,10 +138,10 @@ fn put_records(w: &[u64], k: usize, out: &mut [u8]) -> usize
 fn put_end(number: u32, beside: u64, out: &mut [u8]) -> usize
     ensures { λ r. ⌜ Wrote (endLine number beside) (now (out .entry)) r (now (out .exit)) ⌝ }
 {
-    let a = put_byte(69, out);
+    let a = put_byte(b'E', out);
     let b = a + put_number(number as u64, &mut out[a..]);
     let c = b + put_number(beside, &mut out[b..]);
-    c + put_byte(10, &mut out[c..])
+    c + put_byte(b'\n', &mut out[c..])
 }
 
 // How many records are shown: those of a list that is done; equality and refusals show none.

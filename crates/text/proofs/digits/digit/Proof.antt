@@ -15,11 +15,11 @@ returns-2 c = digit-decimal _ (c .before .if1 .left) (c .if2 .taken)
 returns-3 : tie.Need-returns-3
 returns-3 c = digit-between _ (c .before .if2 .left) (c .if3 .taken)
 
-sub-t5 : tie.Need-sub-t5
-sub-t5 c = search needs
+add-t6 : tie.Need-add-t6
+add-t6 c = search needs
 
-cast-t6 : tie.Need-cast-t6
-cast-t6 c = search needs
+cast-t7 : tie.Need-cast-t7
+cast-t7 c = search needs
 
 returns-4 : tie.Need-returns-4
 returns-4 c = digit-letter _ (c .before .if3 .left) (c .if4 .taken)
@@ -29,4 +29,4 @@ returns-5 c = digit-above _ (c .if4 .left)
 
 pub digit-spec : {M : Type 1} → statement M
 digit-spec =
-    tie.close (tie.spec returns cast-t4 returns-2 returns-3 sub-t5 cast-t6 returns-4 returns-5)
+    tie.close (tie.spec returns cast-t4 returns-2 returns-3 add-t6 cast-t7 returns-4 returns-5)
