@@ -1,13 +1,15 @@
 -- Parts of a lent buffer, and texts written one after the other.
 use mathlib.Core.Path.{_≡_, refl, sym, _∙_, ap, ap₂, subst}
 use mathlib.Core.List.{List, [], _∷_, _++_, append-assoc, append-nil}
-use Prim.Native.Nat.{ℕ, suc, _+_, _-_, _<_, _≤_, min}
+use Prim.Native.Nat.{ℕ, suc, _+_, _-_, _^_, _<_, _≤_, min}
 use native.Mathlib.Omega.{arith}
 use native.Mathlib.Numerals.{add-one}
 use lib.ListN.{length, getD, take, drop, set, length-append, length-take, length-drop, drop-of-length-le}
 use lib.Seq.{drop-drop, drop-cons, drop-nil, take-nil, take-all, take-at, drop-at, take-suc, append-snoc, set-at, take-append-le, take-append-add}
 use lib.Dec.{leb}
 use borrow.Author.Tests.{leb-true, leb-false}
+use mir.Syntax.{w64}
+use mir.Val.{Fits}
 use borrow.Rule.Slice.PartMut.{putMid}
 use Rattle.defs.specs.Lemmas.{split}
 use Rattle.text.specs.Output.{cut, Wrote}
@@ -31,6 +33,10 @@ module _ (text old new : List ℕ) (count : ℕ) (w : Wrote text old count new) 
 
   pub wrote-within : count ≤ length new
   wrote-within = omega (arith, w .counted, wrote-length)
+
+-- so the count fits 64 bits
+pub wrote-fits : {text old new : List ℕ} {count : ℕ} → Wrote text old count new → length old < 2 ^ 64 → Fits w64 count
+wrote-fits w l = record { fits = omega (arith, w .counted) }
 
 -- a text after another, where there is room for the first, and where there is none
 module _ (a b x y z : List ℕ) (r s : ℕ) (wa : Wrote a x r y) (wb : Wrote b (drop r y) s z) where
