@@ -2,7 +2,7 @@
 ghost use mathlib.Core.Path.{_≡_};
 ghost use Prim.Native.Nat.{_+_, _%_, _/_, _≤_, _<_};
 ghost use Rattle.defs.specs.Lists.{recordsOf};
-ghost use Rattle.defs.specs.Outcome.{entriesOf};
+ghost use Rattle.defs.specs.Outcome.{entriesOf, listOutcome};
 ghost use Rattle.defs.specs.Pool.{nodeCount};
 ghost use Rattle.theory.specs.Sides.{childIn};
 ghost use Rattle.theory.specs.Steps.{levelRest};
@@ -11,12 +11,15 @@ ghost use Rattle.view.specs.Standing.{Sane};
 ghost use Rattle.view.specs.Descent.{cutTo};
 ghost use Rattle.sets.specs.Wanted.{lessOf};
 ghost use Rattle.sets.specs.Ready.{jobOf, Ready};
-ghost use Rattle.sets.specs.Listing.{sideOf};
+ghost use Rattle.sets.specs.Listing.{sideOf, leaves};
 ghost use Rattle.sets.specs.Beginning.{emptyLevel};
 ghost use Rattle.sets.specs.Aligned.{nodeAligned, alignStep, alignDown};
+ghost use Rattle.defs.specs.declared.Operation.the-variants.{CoveringDifference};
 use crate::Aligned;
 use crate::Roots;
+use crate::call;
 use crate::walk;
+use defs::Answer;
 use defs::Operation;
 use defs::Prefix;
 use theory::Cover;
@@ -146,4 +149,29 @@ pub(crate) fn start(l: &[u32], r: &[u32], roots: Roots) -> Level
             none,
         ),
     }
+}
+
+// The covering difference of two views as records, or a refusal.
+pub fn list(
+    width: u32,
+    left: &[u32],
+    left_root: Prefix,
+    right: &[u32],
+    right_root: Prefix,
+    out: &mut [u64],
+) -> Answer
+    ensures { λ a. ⌜ leaves a (now (out .exit)) ≡ listOutcome CoveringDifference width (sideOf (now (left .entry)) «left_root») (sideOf (now (right .entry)) «right_root») (now (out .entry)) ⌝ }
+{
+    let roots = Roots {
+        left: left_root,
+        right: right_root,
+    };
+    call::list(
+        Operation::CoveringDifference,
+        width,
+        left,
+        right,
+        roots,
+        out,
+    )
 }

@@ -2,6 +2,13 @@
 ghost use mathlib.Core.Path.{_≡_};
 ghost use Rattle.theory.specs.Steps.{emitUnion};
 ghost use Rattle.sets.specs.Wanted.{eitherOf};
+ghost use Rattle.defs.specs.Outcome.{listOutcome};
+ghost use Rattle.defs.specs.declared.Operation.the-variants.{Union};
+ghost use Rattle.sets.specs.Listing.{sideOf, leaves};
+use crate::Roots;
+use crate::call;
+use defs::Answer;
+use defs::Operation;
 use defs::Prefix;
 use theory::Cover;
 use theory::Emit;
@@ -45,4 +52,22 @@ pub(crate) fn item(q: Prefix, a: Value, b: Value, left: Cover, right: Cover) -> 
             }),
         },
     }
+}
+
+// The union of two views as records, or a refusal.
+pub fn list(
+    width: u32,
+    left: &[u32],
+    left_root: Prefix,
+    right: &[u32],
+    right_root: Prefix,
+    out: &mut [u64],
+) -> Answer
+    ensures { λ a. ⌜ leaves a (now (out .exit)) ≡ listOutcome Union width (sideOf (now (left .entry)) «left_root») (sideOf (now (right .entry)) «right_root») (now (out .entry)) ⌝ }
+{
+    let roots = Roots {
+        left: left_root,
+        right: right_root,
+    };
+    call::list(Operation::Union, width, left, right, roots, out)
 }
