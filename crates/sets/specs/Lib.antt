@@ -14,3 +14,6 @@ pub mod Bound
 -- A list call as a whole.
 pub mod Listing
 pub mod Beginning
+-- Key equality.
+pub mod SameKeys
+pub mod Equality

@@ -46,12 +46,12 @@ sideOf w root = record { pool = w; root = root }
 -- ---- the rows of the table
 
 -- where a row holds, more rows behind change nothing
-first-stays : (rs ts : List Row) (d : ℕ) → (firstOf rs 0 .number ≡ 0 → ⊥) → firstOf (rs ++ ts) d ≡ firstOf rs 0
+pub first-stays : (rs ts : List Row) (d : ℕ) → (firstOf rs 0 .number ≡ 0 → ⊥) → firstOf (rs ++ ts) d ≡ firstOf rs 0
 first-stays [] ts d h = absurd (h refl)
 first-stays (r ∷ rs) ts d h = split (r .holds) (λ e. rw e) (λ e. rw e (first-stays rs ts d (rw e at h)))
 
 -- where none holds, the rows behind decide
-first-passes : (rs ts : List Row) (d : ℕ) → All (λ r. r .holds ≡ false) rs → firstOf (rs ++ ts) d ≡ firstOf ts d
+pub first-passes : (rs ts : List Row) (d : ℕ) → All (λ r. r .holds ≡ false) rs → firstOf (rs ++ ts) d ≡ firstOf ts d
 first-passes [] ts d nil = refl
 first-passes (r ∷ rs) ts d (more h hs) = rw h (first-passes rs ts d hs)
 
@@ -64,7 +64,7 @@ module _ (width : ℕ) (l r : Side) where
     pub left-root : l .root .len ≤ width
     pub right-root : r .root .len ≤ width
 
-  passed-rows : Passed → All (λ x. x .holds ≡ false) (sideRows width l r)
+  pub passed-rows : Passed → All (λ x. x .holds ≡ false) (sideRows width l r)
   passed-rows p =
       more {x = Outcome.widthRow width} (rw (p .known))
       (more {x = Outcome.faultRow 2 width l} (rw (p .left-pool)) (more {x = Outcome.faultRow 3 width r} (rw (p .right-pool)) (more (le-ltb width (l .root .len) (p .left-root)) (more (le-ltb width (r .root .len) (p .right-root)) nil))))
@@ -250,11 +250,17 @@ module _ (op : Operation) (l r : List ℕ) (roots : Roots) (fl : roots .left .ke
   pub first-ready : Ready j (enter j p (nodeDown l (roots .left) K) (nodeDown r (roots .right) K) noCovers)
   first-ready = record { at = entering; ok = start-ok j p (whole-cut (roots .left) (5 * K)) (depth-at K small) (nodeDown l (roots .left) K) (nodeDown r (roots .right) K) }
 
+  -- both views lie in the two nodes
+  left-view : entriesOf (sideOf l (roots .left)) ≡ sideEntries l (roots .left) (suc ((60 - 5 * K) / 5)) (nodeDown l (roots .left) K) p
+  left-view = view-down l (roots .left) fl ll K (suc ((60 - 5 * K) / 5)) levels left-deep
+
+  right-view : entriesOf (sideOf r (roots .right)) ≡ sideEntries r (roots .right) (suc ((60 - 5 * K) / 5)) (nodeDown r (roots .right) K) p
+  right-view =
+      view-down r (roots .right) fr lr K (suc ((60 - 5 * K) / 5)) levels right-deep ∙ ap (sideEntries r (roots .right) (suc ((60 - 5 * K) / 5)) (nodeDown r (roots .right) K)) same-cut
+
   pub first-list : recordsOf op (entriesOf (sideOf l (roots .left))) (entriesOf (sideOf r (roots .right))) ≡ levelRest j (enter j p (nodeDown l (roots .left) K) (nodeDown r (roots .right) K) noCovers)
   first-list =
-      start-list j p (whole-cut (roots .left) (5 * K)) (depth-at K small) (nodeDown l (roots .left) K) (nodeDown r (roots .right) K)
-      (view-down l (roots .left) fl ll K (suc ((60 - 5 * K) / 5)) levels left-deep)
-      (view-down r (roots .right) fr lr K (suc ((60 - 5 * K) / 5)) levels right-deep ∙ ap (sideEntries r (roots .right) (suc ((60 - 5 * K) / 5)) (nodeDown r (roots .right) K)) same-cut)
+      start-list j p (whole-cut (roots .left) (5 * K)) (depth-at K small) (nodeDown l (roots .left) K) (nodeDown r (roots .right) K) left-view right-view
 
   -- the same as code works it out, from the common length m
   module _ (m : ℕ) (em : m ≡ commonLen (roots .left) (roots .right)) where
@@ -281,6 +287,20 @@ module _ (op : Operation) (l r : List ℕ) (roots : Roots) (fl : roots .left .ke
       common-entering =
           subst (λ (x : Prefix). Entering j x a b) (sym prefix-is)
           (subst (λ (x : Node). Entering j p x b) (sym left-is) (subst (Entering j p (nodeDown l (roots .left) K)) (sym right-is) entering))
+
+      levels-are : suc ((60 - 5 * K) / 5) ≡ suc (12 - m / 5 * 5 / 5)
+      levels-are = let s = small in let n = levels in let e = down-is in omega arith
+
+      -- both views lie in the two nodes, so many levels deep
+      pub common-left : entriesOf (sideOf l (roots .left)) ≡ sideEntries l (roots .left) (suc (12 - m / 5 * 5 / 5)) a q
+      common-left =
+          left-view ∙ ap₂ (λ (n : ℕ) (x : Prefix). sideEntries l (roots .left) n (nodeDown l (roots .left) K) x) levels-are (sym prefix-is)
+          ∙ ap (λ (x : Node). sideEntries l (roots .left) (suc (12 - m / 5 * 5 / 5)) x q) (sym left-is)
+
+      pub common-right : entriesOf (sideOf r (roots .right)) ≡ sideEntries r (roots .right) (suc (12 - m / 5 * 5 / 5)) b q
+      common-right =
+          right-view ∙ ap₂ (λ (n : ℕ) (x : Prefix). sideEntries r (roots .right) n (nodeDown r (roots .right) K) x) levels-are (sym prefix-is)
+          ∙ ap (λ (x : Node). sideEntries r (roots .right) (suc (12 - m / 5 * 5 / 5)) x q) (sym right-is)
 
       module _ (c : Covers) (ec : c ≡ noCovers) (f : Level) (ef : f ≡ enter j q a b c) where
         first-is : f ≡ enter j p (nodeDown l (roots .left) K) (nodeDown r (roots .right) K) noCovers

@@ -1,8 +1,9 @@
-// The five lists over two views. One walk serves them all; each list's own rules are in the file of its name.
+// The five lists over two views, and key equality. One walk serves all lists; each list's own rules are in the file of its name.
 mod call;
 pub mod covering_difference;
 pub mod covering_union;
 pub mod difference;
+pub mod equality;
 pub mod intersection;
 mod record;
 pub mod union;
