@@ -1,39 +1,41 @@
 -- How code compares keys: a pair of nodes, its children place by place, and the whole call.
 use mathlib.Core.Path.{_≡_, refl, sym, _∙_, ap, ap₂, subst}
-use mathlib.Core.Bool.{Bool, true, false, false≢true}
+use mathlib.Core.Bool.{Bool, true, false, _||_, false≢true}
 use mathlib.Core.List.{List, []}
-use Prim.Native.Nat.{ℕ, zero, suc, _+_, _*_, _-_, _/_, _^_, _≤_, _<_}
+use Prim.Native.Nat.{ℕ, zero, suc, _+_, _*_, _-_, _/_, _%_, _^_, _≤_, _<_}
 use native.Mathlib.Omega.{arith}
-use native.Mathlib.Numerals.{add-one}
-use borrow.Author.Tests.{eq-eqb, ne-eqb}
+use lib.Count.{trailingZeros}
+use lib.Dec.{eqb}
+use borrow.Author.Tests.{eqb-true, eq-eqb, ne-eqb}
 use Rattle.defs.specs.declared.Prefix.{Prefix}
 use Rattle.defs.specs.declared.Answer.{Answer}
 use Rattle.defs.specs.declared.Operation.the-variants.{Union}
 use Rattle.defs.specs.Basics.{if_then_else_}
 use Rattle.defs.specs.Prefix.{deeper}
+use Rattle.defs.specs.Pool.{bit}
 use Rattle.defs.specs.Lists.{sameKeys}
+use Rattle.defs.specs.Lemmas.{split}
 use Rattle.defs.specs.PrefixLaws.{Whole}
 use Rattle.defs.specs.Outcome.{Side, answer, firstOf, sideRows, entriesOf, equalOutcome}
 use Rattle.bits.specs.Words.{commonLen}
 use Rattle.bits.specs.Places.{placePrefix}
 use Rattle.bits.specs.PlaceLaws.{place-prefix, child-place}
+use Rattle.bits.specs.WordLaws.{bit-none}
+use Rattle.bits.specs.Worked.{one-shl}
 use Rattle.theory.specs.declared.Node.{Node}
 use Rattle.theory.specs.declared.Node.the-variants as node
 use Rattle.theory.specs.Sides.{childIn}
-use Rattle.view.specs.Standing.{Sane, NodeIn, child-in}
-use Rattle.view.specs.Spreads.{belowAll}
+use Rattle.view.specs.Standing.{Sane, NodeIn, bitmapsOf, child-in}
+use Rattle.view.specs.declared.Bitmaps.{Bitmaps}
+use Rattle.view.specs.Spreads.{belowAll, one, lowly}
 use Rattle.view.specs.Emptiness.{both-true, below-of, below-fails}
 use Rattle.view.specs.Kept.{kept-none}
 use Rattle.view.specs.Descent.{cutTo, nodeDown}
 use Rattle.sets.specs.declared.Roots.{Roots}
+use Rattle.sets.specs.BitLaws.{bit-or}
+use Rattle.sets.specs.Wanted.{eitherOf}
 use Rattle.sets.specs.Listing.{sideOf, Passed, first-stays, first-passes, passed-rows, depth-short, common-entering, common-left, common-right}
 use Rattle.sets.specs.SameKeys.{kept, childOn, equalAt, whole-child, equal-says}
-
--- neither side has a node
-abbrev pub neither : Node → Node → Bool
-neither node.Absent node.Absent = true
-neither node.Absent (node.At j) = false
-neither (node.At i) b = false
 
 -- the children of two nodes at place c hold the same prefixes
 abbrev pub childEqual : Side → Side → ℕ → Node → Node → Prefix → ℕ → Bool
@@ -56,6 +58,19 @@ equal-none : (l r : Side) (levels : ℕ) (p : Prefix) → equalAt l r levels nod
 equal-none l r zero p = refl
 equal-none l r (suc levels) p =
     both-true (eq-eqb _ _ (sym (kept-none (l .pool) (l .root) p) ∙ kept-none (r .pool) (r .root) p)) (below-of _ 32 (λ c i. equal-none l r levels (deeper p 5 c)))
+
+neither-of : (u v : Bool) → (u || v) ≡ false → (u ≡ false) × (v ≡ false)
+neither-of true v e = absurd (false≢true (sym e))
+neither-of false v e = (refl, e)
+
+one-none : (u : Bool) → one u ≡ 0 → u ≡ false
+one-none true e = absurd (omega arith)
+one-none false e = refl
+
+-- no bit, no child
+no-child : (w : List ℕ) (root : Prefix) (o : Node) (c : ℕ) (q : Prefix) → bit c (bitmapsOf w o .child) ≡ false → childIn w root o c q ≡ node.Absent
+no-child w root node.Absent c q e = refl
+no-child w root (node.At i) c q e = rw e
 
 -- ---- one place
 module _ (l r : Side) (p : Prefix) (a b : Node) (levels : ℕ) (k : Paired l r p a b levels) (fits : p .key < 2 ^ 64) (c : ℕ) (i : c < 32) where
@@ -90,14 +105,6 @@ module _ (l r : Side) (p : Prefix) (a b : Node) (levels : ℕ) (k : Paired l r p
         ap (λ (z : Node). equalAt l r levels z y q) ex ∙ ap (λ (z : Node). equalAt l r levels (childIn (l .pool) (l .root) a c q) z q) ey
         ∙ ap (λ (z : Prefix). equalAt l r levels (childIn (l .pool) (l .root) a c z) (childIn (r .pool) (r .root) b c z) z) prefix-is
 
-    pub child-neither : neither x y ≡ true → true ≡ childEqual l r levels a b p c
-    child-neither h = sym (go x y h) ∙ same-child
-      where
-        go : (x y : Node) → neither x y ≡ true → equalAt l r levels x y q ≡ true
-        go node.Absent node.Absent h = equal-none l r levels q
-        go node.Absent (node.At n) h = absurd (false≢true h)
-        go (node.At m) y h = absurd (false≢true h)
-
     pub child-pair : (t : Bool) → t ≡ equalAt l r (suc (levels - 1)) x y q → t ≡ childEqual l r levels a b p c
     child-pair t e = e ∙ ap (λ (n : ℕ). equalAt l r n x y q) less ∙ same-child
 
@@ -106,16 +113,41 @@ module _ (l r : Side) (p : Prefix) (a b : Node) (levels : ℕ) where
   abbrev asked : ℕ → Bool
   asked = childEqual l r levels a b p
 
-  -- the loop: the children of the first c places are equal
-  pub record Comparing (c : ℕ) : Type 0 where
-    pub within : c ≤ 32
-    pub so-far : belowAll asked c ≡ true
+  -- the loop: the children of every place that is not among the bits left are equal
+  pub record Comparing (todo : ℕ) : Type 0 where
+    pub small : todo < 2 ^ 32
+    pub so-far : (c : ℕ) → c < 32 → bit c todo ≡ false → asked c ≡ true
 
-  pub comparing-start : Comparing 0
-  comparing-start = record { within = omega arith; so-far = refl }
+  -- where neither node has a child's bit, there is none to compare
+  pub comparing-start : (x y m : Bitmaps) → x ≡ bitmapsOf (l .pool) a → y ≡ bitmapsOf (r .pool) b → m ≡ eitherOf x y → m .child < 2 ^ 32 → Comparing (m .child)
+  comparing-start x y m ex ey em h = record { small = h; so-far = none-there }
+    where
+      unset : (c : ℕ) → bit c (m .child) ≡ (bit c (bitmapsOf (l .pool) a .child) || bit c (bitmapsOf (r .pool) b .child))
+      unset c = ap (λ (z : Bitmaps). bit c (z .child)) (em ∙ ap₂ eitherOf ex ey) ∙ bit-or (bitmapsOf (l .pool) a .child) (bitmapsOf (r .pool) b .child) c
 
-  pub comparing-on : (c : ℕ) → c < 32 → Comparing c → asked c ≡ true → Comparing (c + 1)
-  comparing-on c i k e = record { within = omega arith; so-far = ap (belowAll asked) (add-one c) ∙ both-true e (k .so-far) }
+      none-there : (c : ℕ) → c < 32 → bit c (m .child) ≡ false → asked c ≡ true
+      none-there c i e =
+          let k = neither-of _ _ (sym (unset c) ∙ e) in
+          ap₂ (λ (u v : Node). equalAt l r levels u v (deeper p 5 c)) (no-child (l .pool) (l .root) a c (deeper p 5 c) (k .0)) (no-child (r .pool) (r .root) b c (deeper p 5 c) (k .1)) ∙ equal-none l r levels (deeper p 5 c)
+
+  module _ (todo : ℕ) (k : Comparing todo) (some : 0 < todo) where
+    pub next-inside : trailingZeros 32 todo < 32
+    next-inside = lowly 32 todo some (k .small) .inside
+
+    pub next-there : 2 ^ trailingZeros 32 todo ≤ todo
+    next-there = lowly 32 todo some (k .small) .part
+
+    pub next-shift : 1 * 2 ^ trailingZeros 32 todo % 2 ^ 32 ≡ 2 ^ trailingZeros 32 todo
+    next-shift = one-shl 32 (trailingZeros 32 todo) next-inside
+
+    pub comparing-on : asked (trailingZeros 32 todo) ≡ true → Comparing (todo - 2 ^ trailingZeros 32 todo)
+    comparing-on e = record { small = omega (arith, k .small); so-far = λ c i f. split (eqb c z) (λ t. ap asked (eqb-true c z t) ∙ e) (λ t. k .so-far c i (kept-unset c t f)) }
+      where
+        z : ℕ
+        z = trailingZeros 32 todo
+
+        kept-unset : (c : ℕ) → eqb c z ≡ false → bit c (todo - 2 ^ z) ≡ false → bit c todo ≡ false
+        kept-unset c t f = one-none (bit c todo) (lowly 32 todo some (k .small) .apart c ∙ ap₂ (λ (u v : Bool). one u + one v) t f)
 
   module _ (x y : ℕ) (ex : x ≡ kept l a p) (ey : y ≡ kept r b p) where
     pub pair-differs : (x ≡ y → ⊥) → false ≡ equalAt l r (suc levels) a b p
@@ -128,8 +160,10 @@ module _ (l r : Side) (p : Prefix) (a b : Node) (levels : ℕ) where
       pub comparing-fails : (c : ℕ) → c < 32 → asked c ≡ false → false ≡ equalAt l r (suc levels) a b p
       comparing-fails c i f = sym (by-children ∙ below-fails asked 32 c i f)
 
-      pub comparing-ends : (c : ℕ) → 32 ≤ c → Comparing c → true ≡ equalAt l r (suc levels) a b p
-      comparing-ends c i k = let f : c ≡ 32 = omega (arith, k .within) in sym (by-children ∙ ap (belowAll asked) (sym f) ∙ k .so-far)
+      pub comparing-ends : (todo : ℕ) → todo ≤ 0 → Comparing todo → true ≡ equalAt l r (suc levels) a b p
+      comparing-ends todo h k =
+          let z : todo ≡ 0 = omega arith in
+          sym (by-children ∙ below-of asked 32 (λ c i. k .so-far c i (ap (bit c) z ∙ bit-none 0 c 0 (omega arith) (omega arith))))
 
 -- ---- where the comparison starts
 module _ (l r : List ℕ) (roots : Roots) (fl : roots .left .key < 2 ^ 64) (fr : roots .right .key < 2 ^ 64)

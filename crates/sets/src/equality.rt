@@ -6,27 +6,15 @@ ghost use Rattle.defs.specs.Outcome.{entriesOf, equalOutcome};
 ghost use Rattle.view.specs.Standing.{Sane};
 ghost use Rattle.sets.specs.Listing.{sideOf};
 ghost use Rattle.sets.specs.SameKeys.{equalAt};
-ghost use Rattle.sets.specs.Equality.{Paired, neither, childEqual};
+ghost use Rattle.sets.specs.Equality.{Paired, childEqual};
 use crate::Roots;
 use crate::call;
+use crate::union;
 use defs::Answer;
 use defs::Prefix;
 use theory::Node;
 
-// Neither side has a node.
-fn no_node(left: Node, right: Node) -> bool
-    ensures { λ e. ⌜ e ≡ neither left right ⌝ }
-{
-    match left {
-        Node::Absent => match right {
-            Node::Absent => true,
-            Node::At(_) => false,
-        },
-        Node::At(_) => false,
-    }
-}
-
-// The children of a pair at place c hold the same prefixes. With no level left below, there is no child.
+// The children of a pair at place c hold the same prefixes. One that is there and empty is as one that is not there. With no level left below, there is none.
 fn child_equal(
     l: &[u32],
     r: &[u32],
@@ -46,13 +34,10 @@ fn child_equal(
     let q = bits::place_prefix(p, 32 + c);
     let a = view::child_at(l, roots.left, left, c, q);
     let b = view::child_at(r, roots.right, right, c, q);
-    if no_node(a, b) {
-        return true;
-    }
     pair_equal(l, r, roots, q, a, b, levels - 1)
 }
 
-// Two nodes of prefix p hold the same prefixes: the same data bits are kept, and the children of each place are equal.
+// Two nodes of prefix p hold the same prefixes: the same data bits are kept, and so do the children of each place where either has one.
 fn pair_equal(
     l: &[u32],
     r: &[u32],
@@ -70,12 +55,14 @@ fn pair_equal(
     if a != b {
         return false;
     }
-    let mut c: u32 = 0;
-    while c < 32 {
+    let some = union::wanted(view::bitmaps_at(l, left), view::bitmaps_at(r, right));
+    let mut todo = some.child;
+    while todo > 0 {
+        let c = u32::trailing_zeros(todo);
         if !child_equal(l, r, roots, p, left, right, c, levels) {
             return false;
         }
-        c += 1;
+        todo -= 1 << c;
     }
     true
 }
