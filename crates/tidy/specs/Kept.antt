@@ -1,23 +1,21 @@
 -- What the tidy pool keeps of a node: its two bitmaps, as the code works them out from the node's prefix.
 use mathlib.Core.Path.{_≡_, refl, sym, ap, ap₂, _∙_, subst}
-use mathlib.Core.Bool.{Bool, true, false, not, _&&_, _||_}
+use mathlib.Core.Bool.{Bool, true, false, not, _&&_}
 use mathlib.Core.List.{List, [], _∷_, map}
 use Prim.Native.Nat.{ℕ, suc, _+_, _-_, _*_, _/_, _^_, _≤_, _<_}
 use native.Mathlib.Omega.{arith}
 use native.Mathlib.Numerals.{add-one}
-use lib.Dec.{eqb, ltb}
-use lib.ListN.{length, getD}
+use lib.ListN.{getD}
 use Rattle.defs.specs.declared.Prefix.{Prefix}
 use Rattle.defs.specs.Basics.{if_then_else_, upTo}
 use Rattle.defs.specs.Prefix.{leads, deeper, top}
-use Rattle.defs.specs.Pool.{nodeCount, dataOf, childOf, firstChild, bit, rank, ones, dataBit}
-use Rattle.defs.specs.Entries.{Entry, entriesAt, allEntries, under, view}
+use Rattle.defs.specs.Pool.{nodeCount, dataOf, childOf, firstChild, bit, rank, dataBit}
+use Rattle.defs.specs.Entries.{entriesAt, allEntries, under, view}
 use Rattle.defs.specs.Tidy.{dataPrefixes, childPrefixes, isUnder, wordOf}
 use Rattle.defs.specs.PrefixLaws.{Whole}
 use Rattle.bits.specs.Places.{placeLen, placeValue, placePrefix}
 use Rattle.bits.specs.PlaceLaws.{made, data-place, place-len-below}
 use Rattle.tidied.specs.ListFacts.{full, any-full}
-use Rattle.tidied.specs.Words.{word-map}
 use Rattle.tidied.specs.Layout.{data-bit}
 use Rattle.tidied.specs.Find.{Seen, seen-child}
 use Rattle.tidied.specs.Spots.{under-view}
@@ -30,7 +28,7 @@ use Rattle.view.specs.Spreads.{one, word-on}
 use Rattle.view.specs.Covered.{up-below}
 use Rattle.view.specs.Kept.{keptBit, keptOf, kept-by-places, word-more, word-below}
 use Rattle.view.specs.Emptiness.{isNil, emptyAt, empty-says}
-use Rattle.tidy.specs.Parents.{child-short, child-prefix}
+use Rattle.tidy.specs.Parents.{child-prefix}
 
 -- node i of a pool without a fault, its prefix, and a root
 pub record Here (w : List ℕ) (root : Prefix) (i : ℕ) (p : Prefix) : Type 0 where

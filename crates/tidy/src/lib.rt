@@ -1,10 +1,9 @@
 // Tidying: the source's nodes in order, each with what of it the view holds, and the nodes that hold nothing left out.
 ghost use mathlib.Core.Path.{_≡_};
 ghost use mathlib.Core.Bool.{true, _||_};
-ghost use mathlib.Core.List.{_∷_, _++_};
 ghost use Prim.Native.Nat.{_+_, _*_, _^_, _≤_, _<_};
 ghost use lib.Dec.{eqb, ltb};
-ghost use lib.ListN.{length, drop};
+ghost use lib.ListN.{length};
 ghost use Rattle.defs.specs.Pool.{nodeCount, childOf, firstChild, bit, rank, ones};
 ghost use Rattle.defs.specs.Prefix.{deeper};
 ghost use Rattle.defs.specs.Entries.{view};
@@ -12,7 +11,9 @@ ghost use Rattle.defs.specs.Tidy.{isUnder, nodesOf, tidyPool, tidyValues};
 ghost use Rattle.defs.specs.Outcome.{firstOf, tidyOutcome};
 ghost use Rattle.tidied.specs.Source.{prefixAt};
 ghost use Rattle.view.specs.Standing.{Sane};
-ghost use Rattle.tidy.specs.Kept.{Here, dataOn, kidsOn, nodeOn};
+ghost use Rattle.tidy.specs.Kept.{Here, kidsOn, nodeOn};
+ghost use Rattle.tidy.specs.Chosen.{over, valuesFrom, nodeWords};
+ghost use Rattle.tidy.specs.Call.{sideOf, poolRows};
 use defs::Answer;
 use defs::Prefix;
 use theory::Node;
@@ -122,4 +123,125 @@ fn is_kept(i: usize, b: Bitmaps) -> bool
         return true;
     }
     0 < b.child
+}
+
+// Four words at the front of a buffer: a node's bitmaps, its first child and its first value, after so many children and values.
+fn put_node(out: &mut [u32], b: Bitmaps, children: u32, values: u32)
+    requires { ⌜ (4 ≤ length (now out)) × (1 + children < 2 ^ 32) ⌝ }
+    ensures { λ _. ⌜ now (out .exit) ≡ over (nodeWords (b .data) (b .child) children values) (now (out .entry)) ⌝ }
+{
+    out[0] = b.data;
+    out[1] = b.child;
+    out[2] = 1 + children;
+    out[3] = values;
+}
+
+// The old value index of each kept data bit, at the front of a buffer: values are counted by all data bits that the source node has.
+fn put_values(values: &mut [u32], held: u32, first: u32, kept: u32)
+    requires { ⌜ (ones kept ≤ length (now values)) × (first + 32 < 2 ^ 32) ⌝ }
+    ensures { λ _. ⌜ now (values .exit) ≡ over (valuesFrom held first kept 31) (now (values .entry)) ⌝ }
+{
+    let mut at: usize = 0;
+    let mut b: u32 = 0;
+    while b < 31 {
+        if bits::bit(kept, b) {
+            values[at] = first + bits::rank(held, b);
+            at += 1;
+            b += 1;
+        } else {
+            b += 1;
+        }
+    }
+}
+
+// What a tidy pool needs: its nodes and its entries.
+struct Size {
+    nodes: u32,
+    entries: u32,
+}
+
+// The size of the tidy pool: the walk over the nodes without writing.
+fn measure(words: &[u32], root: Prefix) -> Size
+    requires { ⌜ Sane (now words) × (root .len ≤ 64) ⌝ }
+    ensures { λ r. ⌜ (r .nodes ≡ length (nodesOf (view (now (words .entry)) root))) × (r .entries ≡ length (view (now (words .entry)) root)) ⌝ }
+{
+    let n = words.len() / 4;
+    let mut nodes: u32 = 0;
+    let mut entries: u32 = 0;
+    let mut i: usize = 0;
+    while i < n {
+        let b = kept_node(words, root, i as u32);
+        if is_kept(i, b) {
+            nodes += 1;
+            entries += bits::ones(b.data);
+            i += 1;
+        } else {
+            i += 1;
+        }
+    }
+    Size { nodes, entries }
+}
+
+// The kept nodes in order, each into the parts of the two buffers that start after what is already written.
+fn write(words: &[u32], root: Prefix, out: &mut [u32], values: &mut [u32])
+    requires { ⌜ Sane (now words) × (root .len ≤ 64) ⌝ }
+    requires { ⌜ (4 * length (nodesOf (view (now words) root)) ≤ length (now out)) × (length (view (now words) root) ≤ length (now values)) ⌝ }
+    ensures { λ _. ⌜ (now (out .exit) ≡ over (tidyPool (view (now (words .entry)) root)) (now (out .entry))) × (now (values .exit) ≡ over (tidyValues (view (now (words .entry)) root)) (now (values .entry))) ⌝ }
+{
+    let n = words.len() / 4;
+    let mut at: usize = 0;
+    let mut children: u32 = 0;
+    let mut count: usize = 0;
+    let mut i: usize = 0;
+    while i < n {
+        let b = kept_node(words, root, i as u32);
+        if is_kept(i, b) {
+            put_node(&mut out[at..], b, children, count as u32);
+            let held = pool::data_bits(words, i);
+            let first = pool::first_value(words, i);
+            put_values(&mut values[count..], held, first, b.data);
+            at += 4;
+            children += bits::ones(b.child);
+            count += bits::ones(b.data) as usize;
+            i += 1;
+        } else {
+            i += 1;
+        }
+    }
+}
+
+// The first of the refusals 1, 2 and 4, or 0.
+fn refusal(width: u32, words: &[u32], root: Prefix) -> Answer
+    ensures { λ a. ⌜ a ≡ firstOf (poolRows width (sideOf (now (words .entry)) root)) 0 ⌝ }
+{
+    let a = pool::check(width, words);
+    if a.number == 1 {
+        return Answer::new(1, 0);
+    }
+    if a.number == 2 {
+        return Answer::new(2, a.beside);
+    }
+    if width < root.len {
+        return Answer::new(4, 0);
+    }
+    Answer::new(0, 0)
+}
+
+// D7: the tidy pool of the view at a root, and beside it the old value index of each new one. Both sizes are known before the first write.
+pub fn tidy(width: u32, words: &[u32], root: Prefix, out: &mut [u32], values: &mut [u32]) -> Answer
+    ensures { λ a. ⌜ record { answer = a; output = now (out .exit); values = now (values .exit) } ≡ tidyOutcome width (record { pool = now (words .entry); root = root }) (now (out .entry)) (now (values .entry)) ⌝ }
+{
+    let a = refusal(width, words, root);
+    if a.number != 0 {
+        return a;
+    }
+    let size = measure(words, root);
+    if out.len() / 4 < size.nodes as usize {
+        return Answer::new(6, size.nodes as u64);
+    }
+    if values.len() < size.entries as usize {
+        return Answer::new(7, size.entries as u64);
+    }
+    write(words, root, out, values);
+    Answer::new(0, size.nodes as u64)
 }

@@ -1,8 +1,7 @@
 -- `tidy::prefix_of` meets its contract. The measure of the calls is the node's number: a parent stands before its child.
 use Rattle.tidy.specs.Parents as parents
 use Rattle.defs.specs.Pool.{ones}
-use mathlib.Core.Path.{_≡_, refl, subst, ap, _∙_}
-use Prim.Native.Nat.{_-_, _≤_}
+use mathlib.Core.Path.{refl, subst, ap}
 use native.Mathlib.Omega.{arith}
 use Prim.Native.Nat.{ℕ, _<_}
 use borrow.Fn.Kinds.{In}

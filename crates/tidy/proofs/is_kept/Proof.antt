@@ -1,5 +1,4 @@
 -- `tidy::is_kept` meets its contract. By the cases of the three tests.
-use mathlib.Core.Bool.{or-true}
 use borrow.Author.Tests.{eq-eqb, ne-eqb, lt-ltb, le-ltb}
 use Rattle.tidy.proofs.is_kept.Statement.{statement}
 use Rattle.tidy.proofs.is_kept.Tie as tie

@@ -1,8 +1,7 @@
 -- `tidy::parent` meets its contract. The parent stays between the two ends; the measure is their distance.
 use Rattle.tidy.specs.Parents as parents
 use Rattle.view.specs.Standing.{nodes-few}
-use mathlib.Core.Path.{subst, sym}
-use Prim.Native.Nat.{_-_, _+_, _/_, _≤_, _<_}
+use Prim.Native.Nat.{_-_}
 use native.Mathlib.Omega.{arith}
 use Rattle.tidy.proofs.parent.Statement.{statement}
 use Rattle.tidy.proofs.parent.Tie as tie

@@ -2,7 +2,7 @@
 use Rattle.tidy.specs.Parents as parents
 use Rattle.defs.specs.Pool.{rank}
 use borrow.Author.Needs.{needs}
-use Prim.Native.Nat.{_-_, _+_, _≤_, _<_}
+use Prim.Native.Nat.{_-_, _≤_, _<_}
 use native.Mathlib.Omega.{arith}
 use Rattle.tidy.proofs.place_of.Statement.{statement}
 use Rattle.tidy.proofs.place_of.Tie as tie

@@ -1,6 +1,6 @@
 -- `tidy::used_kids` meets its contract. The word of the first c children; the measure is the children left.
 use Rattle.tidy.specs.Kept as kept
-use Prim.Native.Nat.{_-_, _+_, _≤_, _<_}
+use Prim.Native.Nat.{_-_}
 use native.Mathlib.Omega.{arith}
 use Rattle.tidy.proofs.used_kids.Statement.{statement}
 use Rattle.tidy.proofs.used_kids.Tie as tie
