@@ -319,7 +319,7 @@ fn keeps(held: u32, root: Prefix, p: Prefix, b: u32) -> bool
 }
 
 // A word with bit b set where that is wanted.
-fn with_bit(word: u32, b: u32, on: bool) -> u32
+pub fn with_bit(word: u32, b: u32, on: bool) -> u32
     requires { ⌜ (b < 32) × (word < 2 ^ b) ⌝ }
     ensures { λ r. ⌜ r ≡ word + one on * 2 ^ b ⌝ }
 {
