@@ -98,7 +98,7 @@ fn used_kids(words: &[u32], root: Prefix, i: u32, p: Prefix) -> u32
     word
 }
 
-// The two bitmaps that a node has in the tidy pool.
+// The two bitmaps that a node has in the tidy pool. The cost is that of its prefix, at most 12 searches by halving, and a question to each child.
 fn kept_node(words: &[u32], root: Prefix, i: u32) -> Bitmaps
     requires { ⌜ Sane (now words) × (root .len ≤ 64) × (i < nodeCount (now words)) ⌝ }
     ensures { λ r. ⌜ r ≡ nodeOn (now (words .entry)) root i ⌝ }
