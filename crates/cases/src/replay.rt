@@ -209,23 +209,23 @@ fn case(text: &[u8], from: usize) -> Compared {
     tidying(text, width.next, w)
 }
 
-// The cases of a part of the input, which may end inside one: that one is left for the next part.
+// The cases of a part of the input, which may end inside one: that one is left for the next part, with the comment before it.
 fn part(text: &[u8], is_last: bool, before: Totals) -> Totals {
     let mut totals = before;
+    totals.used = 0;
     let mut at = scan::start(text, 0);
     while at < text.len() {
         let seen = case(text, at);
         if !is_last && text.len() <= seen.next {
             break;
         }
+        totals = counted(totals, seen);
         let next = scan::start(text, seen.next);
         if next <= at {
             break;
         }
-        totals = counted(totals, seen.same);
         at = next;
     }
-    totals.used = at;
     totals
 }
 
@@ -286,21 +286,21 @@ pub(crate) fn input(buffer: &mut [u8]) -> Totals {
     totals
 }
 
-// One more case, and which one failed first.
-fn counted(t: Totals, same: bool) -> Totals {
+// One more case, which one failed first, and how far the text is used.
+fn counted(t: Totals, seen: Compared) -> Totals {
     let cases = std::num::wrapping_add_u64(t.cases, 1);
-    if same {
+    if seen.same {
         return Totals {
             cases,
             failed: t.failed,
             first: t.first,
-            used: t.used,
+            used: seen.next,
         };
     }
     Totals {
         cases,
         failed: std::num::wrapping_add_u64(t.failed, 1),
         first: if t.failed == 0 { cases } else { t.first },
-        used: t.used,
+        used: seen.next,
     }
 }

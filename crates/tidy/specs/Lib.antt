@@ -5,3 +5,5 @@ pub mod Kept
 pub mod Chosen
 -- A call as a whole.
 pub mod Call
+-- An example.
+pub mod Worked

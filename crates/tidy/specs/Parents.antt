@@ -7,8 +7,7 @@ use native.Mathlib.Omega.{arith}
 use native.Mathlib.Numerals.{add-one}
 use borrow.Author.Tests.{eq-eqb}
 use lib.Count.{onesIn}
-use mathlib.Core.Logic.{⊎-elim}
-use native.Mathlib.Nat.{mod-lt, eq-or-lt-of-le}
+use native.Mathlib.Nat.{mod-lt}
 use Rattle.defs.specs.declared.Prefix.{Prefix}
 use Rattle.defs.specs.Prefix.{deeper, top}
 use Rattle.defs.specs.Pool.{nodeCount, childOf, firstChild, bit, rank, ones}
@@ -51,22 +50,34 @@ positive h = omega arith
 pub rank-there : (k f g n m : ℕ) → f ≡ g → n ≡ m → g ≤ k → k < g + m → k - f < n
 rank-there k f g n m e d a b = omega arith
 
--- the place of the child that has r others before it: the last one with at most r before it
-pub place-start : (x r : ℕ) → (0 < 32) × (rank 0 x ≤ r)
+-- the search for the place of the child that has r others before it: it is `low`, or after it and before `high`
+pub record Placed (x r low high : ℕ) : Type 0 where
+  pub apart : low < high
+  pub within : high ≤ 32
+  pub below : rank low x ≤ r
+  pub above : r < rank high x
+
+pub placed-start : (x r : ℕ) → r < ones x → Placed x r 0 32
 unfolding onesIn
-place-start x r = (omega arith, omega arith)
+placed-start x r h = record { apart = omega arith; within = omega arith; below = omega arith; above = h }
 
-pub place-more : (x r c : ℕ) → r < ones x → c < 32 → rank (c + 1) x ≤ r → c + 1 < 32
-place-more x r c h l e = go (c + 1) (omega arith) e
-  where
-    go : (n : ℕ) → n ≤ 32 → rank n x ≤ r → n < 32
-    go n a b = ⊎-elim (λ q. absurd (let z : rank 32 x ≤ r = subst (λ (y : ℕ). rank y x ≤ r) q b in let y : ⊥ = omega arith in y)) (λ q. q) (eq-or-lt-of-le a)
+pub placed-up : (x r low high : ℕ) → low + 1 < high → Placed x r low high → rank ((low + high) / 2) x ≤ r → Placed x r ((low + high) / 2) high
+placed-up x r low high l p e = record { apart = omega arith; within = p .within; below = e; above = p .above }
 
-pub place-end : (x r c : ℕ) → rank c x ≤ r → r < rank (c + 1) x → (bit c x ≡ true) × (rank c x ≡ r)
+pub placed-down : (x r low high : ℕ) → low + 1 < high → Placed x r low high → r < rank ((low + high) / 2) x → Placed x r low ((low + high) / 2)
+placed-down x r low high l p e = record { apart = omega arith; within = omega (arith, p .within); below = p .below; above = e }
+
+place-end : (x r c : ℕ) → rank c x ≤ r → r < rank (c + 1) x → (bit c x ≡ true) × (rank c x ≡ r)
 place-end x r c a b =
     let e : rank (c + 1) x ≡ rank c x + x / 2 ^ c % 2 = ap (λ (y : ℕ). rank y x) (add-one c) ∙ rank-suc c x in
     let m : x / 2 ^ c % 2 < 2 = mod-lt (x / 2 ^ c) (omega arith) in
     (eq-eqb (x / 2 ^ c % 2) 1 (omega arith), omega arith)
+
+pub placed-end : (x r low high : ℕ) → high ≤ low + 1 → Placed x r low high → (low < 32) × (bit low x ≡ true) × (rank low x ≡ r)
+placed-end x r low high l p =
+    let e : high ≡ low + 1 = omega (arith, p .apart) in
+    let t = place-end x r low (p .below) (subst (λ (y : ℕ). r < rank y x) e (p .above)) in
+    (omega (arith, p .apart, p .within), t .0, t .1)
 
 module _ (w : List ℕ) (s : Sane w) where
   -- a child's prefix, as the code makes it

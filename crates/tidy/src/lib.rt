@@ -37,19 +37,25 @@ fn parent(words: &[u32], k: u32) -> u32
     low
 }
 
-// The place of the child that has r others before it.
+// The place of the child that has r others before it: the last one with at most r before it, found by halving.
 fn place_of(child: u32, r: u32) -> u32
     requires { ⌜ r < ones child ⌝ }
     ensures { λ c. ⌜ (c < 32) × (bit c child ≡ true) × (rank c child ≡ r) ⌝ }
 {
-    let mut c: u32 = 0;
-    while bits::rank(child, c + 1) <= r {
-        c += 1;
+    let mut low: u32 = 0;
+    let mut high: u32 = 32;
+    while low + 1 < high {
+        let middle = (low + high) / 2;
+        if bits::rank(child, middle) <= r {
+            low = middle;
+        } else {
+            high = middle;
+        }
     }
-    c
+    low
 }
 
-// The prefix of a node: its parent's with 5 bits more. At most 12 steps up, each a search by halving.
+// The prefix of a node: its parent's with 5 bits more. At most 12 steps up, each two searches by halving.
 fn prefix_of(words: &[u32], k: u32) -> Prefix
     requires { ⌜ Sane (now words) × (k < nodeCount (now words)) ⌝ }
     ensures { λ p. ⌜ p ≡ prefixAt (now (words .entry)) k ⌝ }
@@ -98,7 +104,7 @@ fn used_kids(words: &[u32], root: Prefix, i: u32, p: Prefix) -> u32
     word
 }
 
-// The two bitmaps that a node has in the tidy pool.
+// The two bitmaps that a node has in the tidy pool. The cost is that of its prefix, at most 12 steps up, and a question to each child.
 fn kept_node(words: &[u32], root: Prefix, i: u32) -> Bitmaps
     requires { ⌜ Sane (now words) × (root .len ≤ 64) × (i < nodeCount (now words)) ⌝ }
     ensures { λ r. ⌜ r ≡ nodeOn (now (words .entry)) root i ⌝ }

@@ -1,40 +1,55 @@
--- `tidy::place_of` meets its contract. At most r children stand before place c; the measure is the places left.
+-- `tidy::place_of` meets its contract. The place stays between the two ends; the measure is their distance.
 use Rattle.tidy.specs.Parents as parents
-use Rattle.defs.specs.Pool.{rank}
-use borrow.Author.Needs.{needs}
-use Prim.Native.Nat.{_-_, _≤_, _<_}
+use Prim.Native.Nat.{_-_}
 use native.Mathlib.Omega.{arith}
 use Rattle.tidy.proofs.place_of.Statement.{statement}
 use Rattle.tidy.proofs.place_of.Tie as tie
 
 abbrev Inv-loop : tie.InvT-loop
-Inv-loop child r c₀ c = (c < 32) × (rank c child ≤ r)
+Inv-loop child r low₀ high₀ low high = parents.Placed child r low high
 
 abbrev μ-loop : tie.MeasureT-loop
-μ-loop child r c₀ c = 32 - c
+μ-loop child r low₀ high₀ low high = high - low
 
 loop-holds : tie.Need-loop-holds Inv-loop μ-loop
-loop-holds c = parents.place-start _ _
+loop-holds c = parents.placed-start _ _ (c .pre)
 
-add-rank : tie.Need-add-rank Inv-loop μ-loop
-add-rank c = omega arith
+add-loop : tie.Need-add-loop Inv-loop μ-loop
+add-loop c = omega (arith, c .loop .inv .apart, c .loop .inv .within)
+
+add-middle : tie.Need-add-middle Inv-loop μ-loop
+add-middle c = omega (arith, c .before .loop .inv .apart, c .before .loop .inv .within)
 
 rank-requires : tie.Need-rank-requires Inv-loop μ-loop
-rank-requires c κs = search needs
-
-add-c : tie.Need-add-c Inv-loop μ-loop
-add-c c = omega arith
+rank-requires c κs = tt
 
 loop-less : tie.Need-loop-less Inv-loop μ-loop
-loop-less c = omega arith
+loop-less c = omega (arith, c .before .before .loop-test .taken)
 
 loop-again : tie.Need-loop-again Inv-loop μ-loop
-loop-again c = (parents.place-more (c .before .before .before .args .child) (c .before .before .before .args .r) (c .before .before .loop .c) (c .before .before .before .pre) (c .before .before .loop .inv .0) (omega (arith, c .before .rank .ensures, c .if1 .taken)), omega (arith, c .before .rank .ensures, c .if1 .taken))
+loop-again c = parents.placed-up _ _ _ _ (c .before .before .loop-test .taken) (c .before .before .before .loop .inv) (omega (arith, c .before .rank .ensures, c .if1 .taken))
+
+loop-less-2 : tie.Need-loop-less-2 Inv-loop μ-loop
+loop-less-2 c = omega (arith, c .before .before .loop-test .taken)
+
+loop-again-2 : tie.Need-loop-again-2 Inv-loop μ-loop
+loop-again-2 c = parents.placed-down _ _ _ _ (c .before .before .loop-test .taken) (c .before .before .before .loop .inv) (omega (arith, c .before .rank .ensures, c .if1 .left))
 
 returns : tie.Need-returns Inv-loop μ-loop
-returns c = let e = parents.place-end (c .before .before .before .args .child) (c .before .before .before .args .r) (c .before .before .loop .c) (c .before .before .loop .inv .1) (omega (arith, c .before .rank .ensures, c .if1 .left)) in (c .before .before .loop .inv .0, e .0, e .1)
+returns c = parents.placed-end _ _ _ _ (omega (arith, c .loop-test .left)) (c .before .loop .inv)
 
 pub place-of-spec : {M : Type 1} → statement M
 place-of-spec =
     tie.close
-    (tie.spec Inv-loop μ-loop loop-holds add-rank rank-requires add-c loop-less loop-again returns)
+    (tie.spec
+    Inv-loop
+    μ-loop
+    loop-holds
+    add-loop
+    add-middle
+    rank-requires
+    loop-less
+    loop-again
+    loop-less-2
+    loop-again-2
+    returns)

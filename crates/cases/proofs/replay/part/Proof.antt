@@ -17,43 +17,43 @@ Inv-loop text is-last totals₀ at₀ totals at = Unit {0}
 abbrev μ-loop : tie.MeasureT-loop
 μ-loop text is-last totals₀ at₀ totals at = length text - at
 
--- src/replay.rt:150:9
+-- src/replay.rt:216:9
 start-requires : tie.Need-start-requires Inv-loop μ-loop
 start-requires c κs = search needs
 
--- src/replay.rt:151:5
+-- src/replay.rt:217:5
 loop-holds : tie.Need-loop-holds Inv-loop μ-loop
 loop-holds c = tt
 
--- src/replay.rt:152:13
+-- src/replay.rt:218:13
 case-requires : tie.Need-case-requires Inv-loop μ-loop
 case-requires c κs = search needs
 
--- src/replay.rt:156:13
-start-requires-2 : tie.Need-start-requires-2 Inv-loop μ-loop
-start-requires-2 c κs = search needs
-
--- src/replay.rt:160:9
+-- src/replay.rt:222:9
 counted-requires : tie.Need-counted-requires Inv-loop μ-loop
 counted-requires c κs = search needs
 
--- src/replay.rt:151:5
+-- src/replay.rt:223:13
+start-requires-2 : tie.Need-start-requires-2 Inv-loop μ-loop
+start-requires-2 c κs = search needs
+
+-- src/replay.rt:217:5
 loop-less : tie.Need-loop-less Inv-loop μ-loop
 loop-less c = omega arith
 
--- src/replay.rt:151:5
+-- src/replay.rt:217:5
 loop-again : tie.Need-loop-again Inv-loop μ-loop
 loop-again c = tt
 
--- src/replay.rt:148:1
+-- src/replay.rt:213:1
 returns : tie.Need-returns Inv-loop μ-loop
 returns c = tt
 
--- src/replay.rt:148:1
+-- src/replay.rt:213:1
 returns-2 : tie.Need-returns-2 Inv-loop μ-loop
 returns-2 c = tt
 
--- src/replay.rt:148:1
+-- src/replay.rt:213:1
 returns-3 : tie.Need-returns-3 Inv-loop μ-loop
 returns-3 c = tt
 
@@ -66,8 +66,8 @@ part-spec =
     start-requires
     loop-holds
     case-requires
-    start-requires-2
     counted-requires
+    start-requires-2
     loop-less
     loop-again
     returns
