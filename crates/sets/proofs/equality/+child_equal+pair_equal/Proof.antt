@@ -51,7 +51,6 @@ abbrev pair-equal-below : ℕ → In 2 pair-equal-kinds.ps
 pair-equal-below t =
     and 2 pair-equal-kinds.ps (falls 2 pair-equal-kinds.ps _<_ μ-pair-equal t) pair-equal.Pre
 
--- src/equality.rt:32:9
 child-equal-returns : (t : ℕ) → child-equal-lts.Need-returns (
   place-prefix-reads.Asked,
   place-prefix-reads.Learnt,
@@ -62,7 +61,6 @@ child-equal-returns : (t : ℕ) → child-equal-lts.Need-returns (
 ) (child-equal-at t) child-equal.Post
 child-equal-returns t c = child-last (sideOf (c .before .before .before .args .l .now) (c .before .before .before .args .roots .left)) (sideOf (c .before .before .before .args .r .now) (c .before .before .before .args .roots .right)) (c .before .before .before .args .p) (c .before .before .before .args .left) (c .before .before .before .args .right) (c .before .before .before .args .levels) (c .before .before .before .pre .1 .0) (omega (arith, c .before .before .before .good .1 .1 .1 .0)) (c .before .before .before .args .c) (c .before .before .before .pre .1 .1) (c .if1 .taken)
 
--- src/equality.rt:34:35
 child-equal-add-place-prefix : (t : ℕ) → child-equal-lts.Need-add-place-prefix (
   place-prefix-reads.Asked,
   place-prefix-reads.Learnt,
@@ -73,7 +71,6 @@ child-equal-add-place-prefix : (t : ℕ) → child-equal-lts.Need-add-place-pref
 ) (child-equal-at t) child-equal.Post
 child-equal-add-place-prefix t c = omega (arith, c .before .before .before .pre .1 .1)
 
--- src/equality.rt:34:9
 child-equal-place-prefix-requires : (t : ℕ) → child-equal-lts.Need-place-prefix-requires (
   place-prefix-reads.Asked,
   place-prefix-reads.Learnt,
@@ -84,7 +81,6 @@ child-equal-place-prefix-requires : (t : ℕ) → child-equal-lts.Need-place-pre
 ) (child-equal-at t) child-equal.Post
 child-equal-place-prefix-requires t c κs = tt
 
--- src/equality.rt:35:9
 child-equal-child-at-requires : (t : ℕ) → child-equal-lts.Need-child-at-requires (
   place-prefix-reads.Asked,
   place-prefix-reads.Learnt,
@@ -95,7 +91,6 @@ child-equal-child-at-requires : (t : ℕ) → child-equal-lts.Need-child-at-requ
 ) (child-equal-at t) child-equal.Post
 child-equal-child-at-requires t c κs = (c .before .before .before .before .pre .1 .0 .sane-left, c .before .before .before .before .pre .1 .0 .in-left, c .before .before .before .before .pre .1 .1)
 
--- src/equality.rt:36:9
 child-equal-child-at-requires-2 : (t : ℕ) → child-equal-lts.Need-child-at-requires-2 (
   place-prefix-reads.Asked,
   place-prefix-reads.Learnt,
@@ -106,7 +101,6 @@ child-equal-child-at-requires-2 : (t : ℕ) → child-equal-lts.Need-child-at-re
 ) (child-equal-at t) child-equal.Post
 child-equal-child-at-requires-2 t c κs = (c .before .before .before .before .before .pre .1 .0 .sane-right, c .before .before .before .before .before .pre .1 .0 .in-right, c .before .before .before .before .before .pre .1 .1)
 
--- src/equality.rt:37:38
 child-equal-sub-pair-equal : (t : ℕ) → child-equal-lts.Need-sub-pair-equal (
   place-prefix-reads.Asked,
   place-prefix-reads.Learnt,
@@ -117,7 +111,6 @@ child-equal-sub-pair-equal : (t : ℕ) → child-equal-lts.Need-sub-pair-equal (
 ) (child-equal-at t) child-equal.Post
 child-equal-sub-pair-equal t c = at-least (c .before .before .before .if1 .left)
 
--- src/equality.rt:37:5
 child-equal-pair-equal-requires : (t : ℕ) → child-equal-lts.Need-pair-equal-requires (
   place-prefix-reads.Asked,
   place-prefix-reads.Learnt,
@@ -128,7 +121,6 @@ child-equal-pair-equal-requires : (t : ℕ) → child-equal-lts.Need-pair-equal-
 ) (child-equal-at t) child-equal.Post
 child-equal-pair-equal-requires t c κs = (subst (λ (x : ℕ). 2 * (c .before .before .before .before .before .before .args .levels - 1) + 1 < x) (c .before .before .before .before .before .before .pre .0) (one-less (c .before .before .before .if1 .left)), child-paired (sideOf (c .before .before .before .before .before .before .args .l .now) (c .before .before .before .before .before .before .args .roots .left)) (sideOf (c .before .before .before .before .before .before .args .r .now) (c .before .before .before .before .before .before .args .roots .right)) (c .before .before .before .before .before .before .args .p) (c .before .before .before .before .before .before .args .left) (c .before .before .before .before .before .before .args .right) (c .before .before .before .before .before .before .args .levels) (c .before .before .before .before .before .before .pre .1 .0) (omega (arith, c .before .before .before .before .before .before .good .1 .1 .1 .0)) (c .before .before .before .before .before .before .args .c) (c .before .before .before .before .before .before .pre .1 .1) (c .before .before .before .if1 .left) _ (c .before .before .place-prefix .ensures) _ _ (c .before .child-at .ensures) (c .child-at2 .ensures))
 
--- src/equality.rt:18:1
 child-equal-returns-2 : (t : ℕ) → child-equal-lts.Need-returns-2 (
   place-prefix-reads.Asked,
   place-prefix-reads.Learnt,
@@ -145,7 +137,6 @@ pair-equal-Inv-loop l r roots p left right levels a b todo₀ todo = Comparing (
 abbrev pair-equal-μ-loop : pair-equal-lts.MeasureT-loop
 pair-equal-μ-loop l r roots p left right levels a b todo₀ todo = todo
 
--- src/equality.rt:53:9
 pair-equal-kept-data-requires : (t : ℕ) → pair-equal-lts.Need-kept-data-requires (
   kept-data-reads.Asked,
   kept-data-reads.Learnt,
@@ -158,7 +149,6 @@ pair-equal-kept-data-requires : (t : ℕ) → pair-equal-lts.Need-kept-data-requ
 ) (pair-equal-at t) pair-equal.Post pair-equal-Inv-loop pair-equal-μ-loop
 pair-equal-kept-data-requires t c κs = (c .before .before .pre .1 .sane-left, c .before .before .pre .1 .in-left, c .before .before .pre .1 .whole, paired-short (c .before .before .pre .1))
 
--- src/equality.rt:54:9
 pair-equal-kept-data-requires-2 : (t : ℕ) → pair-equal-lts.Need-kept-data-requires-2 (
   kept-data-reads.Asked,
   kept-data-reads.Learnt,
@@ -171,7 +161,6 @@ pair-equal-kept-data-requires-2 : (t : ℕ) → pair-equal-lts.Need-kept-data-re
 ) (pair-equal-at t) pair-equal.Post pair-equal-Inv-loop pair-equal-μ-loop
 pair-equal-kept-data-requires-2 t c κs = (c .before .before .before .pre .1 .sane-right, c .before .before .before .pre .1 .in-right, c .before .before .before .pre .1 .whole, paired-short (c .before .before .before .pre .1))
 
--- src/equality.rt:56:9
 pair-equal-returns : (t : ℕ) → pair-equal-lts.Need-returns (
   kept-data-reads.Asked,
   kept-data-reads.Learnt,
@@ -184,7 +173,6 @@ pair-equal-returns : (t : ℕ) → pair-equal-lts.Need-returns (
 ) (pair-equal-at t) pair-equal.Post pair-equal-Inv-loop pair-equal-μ-loop
 pair-equal-returns t c = pair-differs (sideOf (c .before .before .before .before .before .args .l .now) (c .before .before .before .before .before .args .roots .left)) (sideOf (c .before .before .before .before .before .args .r .now) (c .before .before .before .before .before .args .roots .right)) (c .before .before .before .before .before .args .p) (c .before .before .before .before .before .args .left) (c .before .before .before .before .before .args .right) (c .before .before .before .before .before .args .levels) _ _ (c .before .before .kept-data .ensures) (c .before .kept-data2 .ensures) (c .if1 .taken)
 
--- src/equality.rt:58:30
 pair-equal-bitmaps-at-requires : (t : ℕ) → pair-equal-lts.Need-bitmaps-at-requires (
   kept-data-reads.Asked,
   kept-data-reads.Learnt,
@@ -197,7 +185,6 @@ pair-equal-bitmaps-at-requires : (t : ℕ) → pair-equal-lts.Need-bitmaps-at-re
 ) (pair-equal-at t) pair-equal.Post pair-equal-Inv-loop pair-equal-μ-loop
 pair-equal-bitmaps-at-requires t c κs = c .before .before .before .before .before .pre .1 .in-left
 
--- src/equality.rt:58:57
 pair-equal-bitmaps-at-requires-2 : (t : ℕ) → pair-equal-lts.Need-bitmaps-at-requires-2 (
   kept-data-reads.Asked,
   kept-data-reads.Learnt,
@@ -210,7 +197,6 @@ pair-equal-bitmaps-at-requires-2 : (t : ℕ) → pair-equal-lts.Need-bitmaps-at-
 ) (pair-equal-at t) pair-equal.Post pair-equal-Inv-loop pair-equal-μ-loop
 pair-equal-bitmaps-at-requires-2 t c κs = c .before .before .before .before .before .before .pre .1 .in-right
 
--- src/equality.rt:58:9
 pair-equal-wanted-requires : (t : ℕ) → pair-equal-lts.Need-wanted-requires (
   kept-data-reads.Asked,
   kept-data-reads.Learnt,
@@ -223,7 +209,6 @@ pair-equal-wanted-requires : (t : ℕ) → pair-equal-lts.Need-wanted-requires (
 ) (pair-equal-at t) pair-equal.Post pair-equal-Inv-loop pair-equal-μ-loop
 pair-equal-wanted-requires t c κs = tt
 
--- src/equality.rt:60:5
 pair-equal-loop-holds : (t : ℕ) → pair-equal-lts.Need-loop-holds (
   kept-data-reads.Asked,
   kept-data-reads.Learnt,
@@ -236,7 +221,6 @@ pair-equal-loop-holds : (t : ℕ) → pair-equal-lts.Need-loop-holds (
 ) (pair-equal-at t) pair-equal.Post pair-equal-Inv-loop pair-equal-μ-loop
 pair-equal-loop-holds t c = comparing-start (sideOf (c .before .before .before .before .before .before .before .before .args .l .now) (c .before .before .before .before .before .before .before .before .args .roots .left)) (sideOf (c .before .before .before .before .before .before .before .before .args .r .now) (c .before .before .before .before .before .before .before .before .args .roots .right)) (c .before .before .before .before .before .before .before .before .args .p) (c .before .before .before .before .before .before .before .before .args .left) (c .before .before .before .before .before .before .before .before .args .right) (c .before .before .before .before .before .before .before .before .args .levels) _ _ _ (c .before .before .bitmaps-at .ensures) (c .before .bitmaps-at2 .ensures) (c .wanted .ensures) (omega arith)
 
--- src/equality.rt:62:13
 pair-equal-child-equal-requires : (t : ℕ) → pair-equal-lts.Need-child-equal-requires (
   kept-data-reads.Asked,
   kept-data-reads.Learnt,
@@ -249,7 +233,6 @@ pair-equal-child-equal-requires : (t : ℕ) → pair-equal-lts.Need-child-equal-
 ) (pair-equal-at t) pair-equal.Post pair-equal-Inv-loop pair-equal-μ-loop
 pair-equal-child-equal-requires t c κs = (subst (λ (x : ℕ). 2 * c .before .before .before .before .before .before .before .before .before .before .args .levels < x) (c .before .before .before .before .before .before .before .before .before .before .pre .0) (omega arith), (c .before .before .before .before .before .before .before .before .before .before .pre .1, next-inside (sideOf (c .before .before .before .before .before .before .before .before .before .before .args .l .now) (c .before .before .before .before .before .before .before .before .before .before .args .roots .left)) (sideOf (c .before .before .before .before .before .before .before .before .before .before .args .r .now) (c .before .before .before .before .before .before .before .before .before .before .args .roots .right)) (c .before .before .before .before .before .before .before .before .before .before .args .p) (c .before .before .before .before .before .before .before .before .before .before .args .left) (c .before .before .before .before .before .before .before .before .before .before .args .right) (c .before .before .before .before .before .before .before .before .before .before .args .levels) _ (c .before .loop .inv) (c .loop-test .taken)))
 
--- src/equality.rt:63:13
 pair-equal-returns-2 : (t : ℕ) → pair-equal-lts.Need-returns-2 (
   kept-data-reads.Asked,
   kept-data-reads.Learnt,
@@ -262,7 +245,6 @@ pair-equal-returns-2 : (t : ℕ) → pair-equal-lts.Need-returns-2 (
 ) (pair-equal-at t) pair-equal.Post pair-equal-Inv-loop pair-equal-μ-loop
 pair-equal-returns-2 t c = comparing-fails (sideOf (c .before .before .before .before .before .before .before .before .before .before .before .before .args .l .now) (c .before .before .before .before .before .before .before .before .before .before .before .before .args .roots .left)) (sideOf (c .before .before .before .before .before .before .before .before .before .before .before .before .args .r .now) (c .before .before .before .before .before .before .before .before .before .before .before .before .args .roots .right)) (c .before .before .before .before .before .before .before .before .before .before .before .before .args .p) (c .before .before .before .before .before .before .before .before .before .before .before .before .args .left) (c .before .before .before .before .before .before .before .before .before .before .before .before .args .right) (c .before .before .before .before .before .before .before .before .before .before .before .before .args .levels) _ _ (c .before .before .before .before .before .before .before .before .before .kept-data .ensures) (c .before .before .before .before .before .before .before .before .kept-data2 .ensures) (c .before .before .before .before .before .before .before .if1 .left) _ (next-inside (sideOf (c .before .before .before .before .before .before .before .before .before .before .before .before .args .l .now) (c .before .before .before .before .before .before .before .before .before .before .before .before .args .roots .left)) (sideOf (c .before .before .before .before .before .before .before .before .before .before .before .before .args .r .now) (c .before .before .before .before .before .before .before .before .before .before .before .before .args .roots .right)) (c .before .before .before .before .before .before .before .before .before .before .before .before .args .p) (c .before .before .before .before .before .before .before .before .before .before .before .before .args .left) (c .before .before .before .before .before .before .before .before .before .before .before .before .args .right) (c .before .before .before .before .before .before .before .before .before .before .before .before .args .levels) _ (c .before .before .before .loop .inv) (c .before .before .loop-test .taken)) (sym (c .before .child-equal .ensures) ∙ not-true _ (c .if2 .taken))
 
--- src/equality.rt:65:17
 pair-equal-shl-todo : (t : ℕ) → pair-equal-lts.Need-shl-todo (
   kept-data-reads.Asked,
   kept-data-reads.Learnt,
@@ -275,7 +257,6 @@ pair-equal-shl-todo : (t : ℕ) → pair-equal-lts.Need-shl-todo (
 ) (pair-equal-at t) pair-equal.Post pair-equal-Inv-loop pair-equal-μ-loop
 pair-equal-shl-todo t c = next-inside (sideOf (c .before .before .before .before .before .before .before .before .before .before .before .before .args .l .now) (c .before .before .before .before .before .before .before .before .before .before .before .before .args .roots .left)) (sideOf (c .before .before .before .before .before .before .before .before .before .before .before .before .args .r .now) (c .before .before .before .before .before .before .before .before .before .before .before .before .args .roots .right)) (c .before .before .before .before .before .before .before .before .before .before .before .before .args .p) (c .before .before .before .before .before .before .before .before .before .before .before .before .args .left) (c .before .before .before .before .before .before .before .before .before .before .before .before .args .right) (c .before .before .before .before .before .before .before .before .before .before .before .before .args .levels) _ (c .before .before .before .loop .inv) (c .before .before .loop-test .taken)
 
--- src/equality.rt:65:9
 pair-equal-sub-todo : (t : ℕ) → pair-equal-lts.Need-sub-todo (
   kept-data-reads.Asked,
   kept-data-reads.Learnt,
@@ -288,7 +269,6 @@ pair-equal-sub-todo : (t : ℕ) → pair-equal-lts.Need-sub-todo (
 ) (pair-equal-at t) pair-equal.Post pair-equal-Inv-loop pair-equal-μ-loop
 pair-equal-sub-todo t c = omega (arith, next-shift (sideOf (c .before .before .before .before .before .before .before .before .before .before .before .before .args .l .now) (c .before .before .before .before .before .before .before .before .before .before .before .before .args .roots .left)) (sideOf (c .before .before .before .before .before .before .before .before .before .before .before .before .args .r .now) (c .before .before .before .before .before .before .before .before .before .before .before .before .args .roots .right)) (c .before .before .before .before .before .before .before .before .before .before .before .before .args .p) (c .before .before .before .before .before .before .before .before .before .before .before .before .args .left) (c .before .before .before .before .before .before .before .before .before .before .before .before .args .right) (c .before .before .before .before .before .before .before .before .before .before .before .before .args .levels) _ (c .before .before .before .loop .inv) (c .before .before .loop-test .taken), next-there (sideOf (c .before .before .before .before .before .before .before .before .before .before .before .before .args .l .now) (c .before .before .before .before .before .before .before .before .before .before .before .before .args .roots .left)) (sideOf (c .before .before .before .before .before .before .before .before .before .before .before .before .args .r .now) (c .before .before .before .before .before .before .before .before .before .before .before .before .args .roots .right)) (c .before .before .before .before .before .before .before .before .before .before .before .before .args .p) (c .before .before .before .before .before .before .before .before .before .before .before .before .args .left) (c .before .before .before .before .before .before .before .before .before .before .before .before .args .right) (c .before .before .before .before .before .before .before .before .before .before .before .before .args .levels) _ (c .before .before .before .loop .inv) (c .before .before .loop-test .taken))
 
--- src/equality.rt:60:5
 pair-equal-loop-less : (t : ℕ) → pair-equal-lts.Need-loop-less (
   kept-data-reads.Asked,
   kept-data-reads.Learnt,
@@ -301,7 +281,6 @@ pair-equal-loop-less : (t : ℕ) → pair-equal-lts.Need-loop-less (
 ) (pair-equal-at t) pair-equal.Post pair-equal-Inv-loop pair-equal-μ-loop
 pair-equal-loop-less t c = omega (arith, next-shift (sideOf (c .before .before .before .before .before .before .before .before .before .before .before .before .args .l .now) (c .before .before .before .before .before .before .before .before .before .before .before .before .args .roots .left)) (sideOf (c .before .before .before .before .before .before .before .before .before .before .before .before .args .r .now) (c .before .before .before .before .before .before .before .before .before .before .before .before .args .roots .right)) (c .before .before .before .before .before .before .before .before .before .before .before .before .args .p) (c .before .before .before .before .before .before .before .before .before .before .before .before .args .left) (c .before .before .before .before .before .before .before .before .before .before .before .before .args .right) (c .before .before .before .before .before .before .before .before .before .before .before .before .args .levels) _ (c .before .before .before .loop .inv) (c .before .before .loop-test .taken), next-there (sideOf (c .before .before .before .before .before .before .before .before .before .before .before .before .args .l .now) (c .before .before .before .before .before .before .before .before .before .before .before .before .args .roots .left)) (sideOf (c .before .before .before .before .before .before .before .before .before .before .before .before .args .r .now) (c .before .before .before .before .before .before .before .before .before .before .before .before .args .roots .right)) (c .before .before .before .before .before .before .before .before .before .before .before .before .args .p) (c .before .before .before .before .before .before .before .before .before .before .before .before .args .left) (c .before .before .before .before .before .before .before .before .before .before .before .before .args .right) (c .before .before .before .before .before .before .before .before .before .before .before .before .args .levels) _ (c .before .before .before .loop .inv) (c .before .before .loop-test .taken), pow-pos (trailingZeros 32 (c .before .before .before .loop .todo)))
 
--- src/equality.rt:60:5
 pair-equal-loop-again : (t : ℕ) → pair-equal-lts.Need-loop-again (
   kept-data-reads.Asked,
   kept-data-reads.Learnt,
@@ -314,7 +293,6 @@ pair-equal-loop-again : (t : ℕ) → pair-equal-lts.Need-loop-again (
 ) (pair-equal-at t) pair-equal.Post pair-equal-Inv-loop pair-equal-μ-loop
 pair-equal-loop-again t c = rw (next-shift (sideOf (c .before .before .before .before .before .before .before .before .before .before .before .before .args .l .now) (c .before .before .before .before .before .before .before .before .before .before .before .before .args .roots .left)) (sideOf (c .before .before .before .before .before .before .before .before .before .before .before .before .args .r .now) (c .before .before .before .before .before .before .before .before .before .before .before .before .args .roots .right)) (c .before .before .before .before .before .before .before .before .before .before .before .before .args .p) (c .before .before .before .before .before .before .before .before .before .before .before .before .args .left) (c .before .before .before .before .before .before .before .before .before .before .before .before .args .right) (c .before .before .before .before .before .before .before .before .before .before .before .before .args .levels) _ (c .before .before .before .loop .inv) (c .before .before .loop-test .taken)) (comparing-on (sideOf (c .before .before .before .before .before .before .before .before .before .before .before .before .args .l .now) (c .before .before .before .before .before .before .before .before .before .before .before .before .args .roots .left)) (sideOf (c .before .before .before .before .before .before .before .before .before .before .before .before .args .r .now) (c .before .before .before .before .before .before .before .before .before .before .before .before .args .roots .right)) (c .before .before .before .before .before .before .before .before .before .before .before .before .args .p) (c .before .before .before .before .before .before .before .before .before .before .before .before .args .left) (c .before .before .before .before .before .before .before .before .before .before .before .before .args .right) (c .before .before .before .before .before .before .before .before .before .before .before .before .args .levels) _ (c .before .before .before .loop .inv) (c .before .before .loop-test .taken) (sym (c .before .child-equal .ensures) ∙ not-false _ (c .if2 .left)))
 
--- src/equality.rt:41:1
 pair-equal-returns-3 : (t : ℕ) → pair-equal-lts.Need-returns-3 (
   kept-data-reads.Asked,
   kept-data-reads.Learnt,

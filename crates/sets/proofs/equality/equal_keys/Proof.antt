@@ -6,31 +6,24 @@ use borrow.Author.Needs.{needs}
 use Rattle.sets.proofs.equality.equal_keys.Statement.{statement}
 use Rattle.sets.proofs.equality.equal_keys.Tie as tie
 
--- src/equality.rt:109:9
 refusal-requires : tie.Need-refusal-requires
 refusal-requires c κs = search needs
 
--- src/equality.rt:111:9
 returns : tie.Need-returns
 returns c = equal-refused (c .before .before .before .before .before .args .width) (sideOf (c .before .before .before .before .before .args .left .now) (c .before .before .before .before .before .args .left-root)) (sideOf (c .before .before .before .before .before .args .right .now) (c .before .before .before .before .before .args .right-root)) _ (c .before .before .refusal .ensures) (c .if1 .taken)
 
--- src/equality.rt:113:8
 views-equal-requires : tie.Need-views-equal-requires
 views-equal-requires c κs = (passed-left (c .before .before .before .before .before .args .width) (sideOf (c .before .before .before .before .before .args .left .now) (c .before .before .before .before .before .args .left-root)) (sideOf (c .before .before .before .before .before .args .right .now) (c .before .before .before .before .before .args .right-root)) (call-passed Union (c .before .before .before .before .before .args .width) (sideOf (c .before .before .before .before .before .args .left .now) (c .before .before .before .before .before .args .left-root)) (sideOf (c .before .before .before .before .before .args .right .now) (c .before .before .before .before .before .args .right-root)) _ (c .before .before .refusal .ensures) (c .if1 .left)), passed-right (c .before .before .before .before .before .args .width) (sideOf (c .before .before .before .before .before .args .left .now) (c .before .before .before .before .before .args .left-root)) (sideOf (c .before .before .before .before .before .args .right .now) (c .before .before .before .before .before .args .right-root)) (call-passed Union (c .before .before .before .before .before .args .width) (sideOf (c .before .before .before .before .before .args .left .now) (c .before .before .before .before .before .args .left-root)) (sideOf (c .before .before .before .before .before .args .right .now) (c .before .before .before .before .before .args .right-root)) _ (c .before .before .refusal .ensures) (c .if1 .left)), left-short Union (c .before .before .before .before .before .args .width) (sideOf (c .before .before .before .before .before .args .left .now) (c .before .before .before .before .before .args .left-root)) (sideOf (c .before .before .before .before .before .args .right .now) (c .before .before .before .before .before .args .right-root)) _ (c .before .before .refusal .ensures) (c .if1 .left), right-short Union (c .before .before .before .before .before .args .width) (sideOf (c .before .before .before .before .before .args .left .now) (c .before .before .before .before .before .args .left-root)) (sideOf (c .before .before .before .before .before .args .right .now) (c .before .before .before .before .before .args .right-root)) _ (c .before .before .refusal .ensures) (c .if1 .left))
 
--- src/equality.rt:114:9
 new-requires : tie.Need-new-requires
 new-requires c κs = search needs
 
--- src/equality.rt:114:9
 returns-2 : tie.Need-returns-2
 returns-2 c = equal-yes (c .before .before .before .before .before .before .before .before .args .width) (sideOf (c .before .before .before .before .before .before .before .before .args .left .now) (c .before .before .before .before .before .before .before .before .args .left-root)) (sideOf (c .before .before .before .before .before .before .before .before .args .right .now) (c .before .before .before .before .before .before .before .before .args .right-root)) (call-passed Union (c .before .before .before .before .before .before .before .before .args .width) (sideOf (c .before .before .before .before .before .before .before .before .args .left .now) (c .before .before .before .before .before .before .before .before .args .left-root)) (sideOf (c .before .before .before .before .before .before .before .before .args .right .now) (c .before .before .before .before .before .before .before .before .args .right-root)) _ (c .before .before .before .before .before .refusal .ensures) (c .before .before .before .if1 .left)) _ (c .before .before .views-equal .ensures) (c .before .if2 .taken) _ (c .new .ensures)
 
--- src/equality.rt:116:5
 new-requires-2 : tie.Need-new-requires-2
 new-requires-2 c κs = search needs
 
--- src/equality.rt:96:1
 returns-3 : tie.Need-returns-3
 returns-3 c = equal-no (c .before .before .before .before .before .before .before .before .args .width) (sideOf (c .before .before .before .before .before .before .before .before .args .left .now) (c .before .before .before .before .before .before .before .before .args .left-root)) (sideOf (c .before .before .before .before .before .before .before .before .args .right .now) (c .before .before .before .before .before .before .before .before .args .right-root)) (call-passed Union (c .before .before .before .before .before .before .before .before .args .width) (sideOf (c .before .before .before .before .before .before .before .before .args .left .now) (c .before .before .before .before .before .before .before .before .args .left-root)) (sideOf (c .before .before .before .before .before .before .before .before .args .right .now) (c .before .before .before .before .before .before .before .before .args .right-root)) _ (c .before .before .before .before .before .refusal .ensures) (c .before .before .before .if1 .left)) _ (c .before .before .views-equal .ensures) (c .before .if2 .left) _ (c .new2 .ensures)
 

@@ -5,35 +5,27 @@ use borrow.Author.Needs.{needs}
 use Rattle.sets.proofs.equality.views_equal.Statement.{statement}
 use Rattle.sets.proofs.equality.views_equal.Tie as tie
 
--- src/equality.rt:88:17
 common-len-requires : tie.Need-common-len-requires
 common-len-requires c κs = search needs
 
--- src/equality.rt:88:17
 mul-depth : tie.Need-mul-depth
 mul-depth c = search needs
 
--- src/equality.rt:89:9
 at-depth-requires : tie.Need-at-depth-requires
 at-depth-requires c κs = (c .before .before .before .pre .0, omega arith, start-short (c .before .before .before .args .l .now) (c .before .before .before .args .r .now) (c .before .before .before .args .roots) (omega (arith, c .before .before .before .good .1 .1 .0)) (omega (arith, c .before .before .before .good .1 .1 .0)) (c .before .before .before .pre .2) (c .before .before .before .pre .3) (c .before .before .before .pre .0) (c .before .before .before .pre .1) _ (c .common-len .ensures))
 
--- src/equality.rt:90:9
 at-depth-requires-2 : tie.Need-at-depth-requires-2
 at-depth-requires-2 c κs = (c .before .before .before .before .pre .1, omega arith, start-short (c .before .before .before .before .args .l .now) (c .before .before .before .before .args .r .now) (c .before .before .before .before .args .roots) (omega (arith, c .before .before .before .before .good .1 .1 .0)) (omega (arith, c .before .before .before .before .good .1 .1 .0)) (c .before .before .before .before .pre .2) (c .before .before .before .before .pre .3) (c .before .before .before .before .pre .0) (c .before .before .before .before .pre .1) _ (c .before .common-len .ensures))
 
--- src/equality.rt:91:9
 shortened-requires : tie.Need-shortened-requires
 shortened-requires c κs = search needs
 
--- src/equality.rt:92:50
 sub-pair-equal : tie.Need-sub-pair-equal
 sub-pair-equal c = omega (arith, start-short (c .before .before .before .before .before .before .args .l .now) (c .before .before .before .before .before .before .args .r .now) (c .before .before .before .before .before .before .args .roots) (omega (arith, c .before .before .before .before .before .before .good .1 .1 .0)) (omega (arith, c .before .before .before .before .before .before .good .1 .1 .0)) (c .before .before .before .before .before .before .pre .2) (c .before .before .before .before .before .before .pre .3) (c .before .before .before .before .before .before .pre .0) (c .before .before .before .before .before .before .pre .1) _ (c .before .before .before .common-len .ensures))
 
--- src/equality.rt:92:5
 pair-equal-requires : tie.Need-pair-equal-requires
 pair-equal-requires c κs = start-paired (c .before .before .before .before .before .before .args .l .now) (c .before .before .before .before .before .before .args .r .now) (c .before .before .before .before .before .before .args .roots) (omega (arith, c .before .before .before .before .before .before .good .1 .1 .0)) (omega (arith, c .before .before .before .before .before .before .good .1 .1 .0)) (c .before .before .before .before .before .before .pre .2) (c .before .before .before .before .before .before .pre .3) (c .before .before .before .before .before .before .pre .0) (c .before .before .before .before .before .before .pre .1) _ (c .before .before .before .common-len .ensures) _ _ (c .before .before .at-depth .ensures) (c .before .at-depth2 .ensures) _ (c .shortened .ensures)
 
--- src/equality.rt:84:1
 returns : tie.Need-returns
 returns c = start-equal (c .before .before .before .before .before .before .before .args .l .now) (c .before .before .before .before .before .before .before .args .r .now) (c .before .before .before .before .before .before .before .args .roots) (omega (arith, c .before .before .before .before .before .before .before .good .1 .1 .0)) (omega (arith, c .before .before .before .before .before .before .before .good .1 .1 .0)) (c .before .before .before .before .before .before .before .pre .2) (c .before .before .before .before .before .before .before .pre .3) (c .before .before .before .before .before .before .before .pre .0) (c .before .before .before .before .before .before .before .pre .1) _ (c .before .before .before .before .common-len .ensures) _ _ (c .before .before .before .at-depth .ensures) (c .before .before .at-depth2 .ensures) _ (c .before .shortened .ensures) _ (c .pair-equal .ensures)
 
