@@ -231,7 +231,7 @@ pair-equal-child-equal-requires : (t : ℕ) → pair-equal-lts.Need-child-equal-
   child-equal-below t,
   child-equal.Post,
 ) (pair-equal-at t) pair-equal.Post pair-equal-Inv-loop pair-equal-μ-loop
-pair-equal-child-equal-requires t c κs = (subst (λ (x : ℕ). 2 * c .before .before .before .before .before .before .before .before .before .before .args .levels < x) (c .before .before .before .before .before .before .before .before .before .before .pre .0) (omega arith), (c .before .before .before .before .before .before .before .before .before .before .pre .1, next-inside (sideOf (c .before .before .before .before .before .before .before .before .before .before .args .l .now) (c .before .before .before .before .before .before .before .before .before .before .args .roots .left)) (sideOf (c .before .before .before .before .before .before .before .before .before .before .args .r .now) (c .before .before .before .before .before .before .before .before .before .before .args .roots .right)) (c .before .before .before .before .before .before .before .before .before .before .args .p) (c .before .before .before .before .before .before .before .before .before .before .args .left) (c .before .before .before .before .before .before .before .before .before .before .args .right) (c .before .before .before .before .before .before .before .before .before .before .args .levels) _ (c .before .loop .inv) (c .loop-test .taken)))
+pair-equal-child-equal-requires t c κs = (subst (λ (x : ℕ). 2 * c .before .before .before .before .before .before .before .before .before .before .args .levels < x) (c .before .before .before .before .before .before .before .before .before .before .pre .0) (omega arith), (c .before .before .before .before .before .before .before .before .before .before .pre .1, next-inside (sideOf (c .before .before .before .before .before .before .before .before .before .before .args .l .now) (c .before .before .before .before .before .before .before .before .before .before .args .roots .left)) (sideOf (c .before .before .before .before .before .before .before .before .before .before .args .r .now) (c .before .before .before .before .before .before .before .before .before .before .args .roots .right)) (c .before .before .before .before .before .before .before .before .before .before .args .p) (c .before .before .before .before .before .before .before .before .before .before .args .left) (c .before .before .before .before .before .before .before .before .before .before .args .right) (c .before .before .before .before .before .before .before .before .before .before .args .levels) _ (c .before .loop .inv) (omega (arith, c .loop-test .taken))))
 
 pair-equal-returns-2 : (t : ℕ) → pair-equal-lts.Need-returns-2 (
   kept-data-reads.Asked,
@@ -243,7 +243,7 @@ pair-equal-returns-2 : (t : ℕ) → pair-equal-lts.Need-returns-2 (
   child-equal-below t,
   child-equal.Post,
 ) (pair-equal-at t) pair-equal.Post pair-equal-Inv-loop pair-equal-μ-loop
-pair-equal-returns-2 t c = comparing-fails (sideOf (c .before .before .before .before .before .before .before .before .before .before .before .before .args .l .now) (c .before .before .before .before .before .before .before .before .before .before .before .before .args .roots .left)) (sideOf (c .before .before .before .before .before .before .before .before .before .before .before .before .args .r .now) (c .before .before .before .before .before .before .before .before .before .before .before .before .args .roots .right)) (c .before .before .before .before .before .before .before .before .before .before .before .before .args .p) (c .before .before .before .before .before .before .before .before .before .before .before .before .args .left) (c .before .before .before .before .before .before .before .before .before .before .before .before .args .right) (c .before .before .before .before .before .before .before .before .before .before .before .before .args .levels) _ _ (c .before .before .before .before .before .before .before .before .before .kept-data .ensures) (c .before .before .before .before .before .before .before .before .kept-data2 .ensures) (c .before .before .before .before .before .before .before .if1 .left) _ (next-inside (sideOf (c .before .before .before .before .before .before .before .before .before .before .before .before .args .l .now) (c .before .before .before .before .before .before .before .before .before .before .before .before .args .roots .left)) (sideOf (c .before .before .before .before .before .before .before .before .before .before .before .before .args .r .now) (c .before .before .before .before .before .before .before .before .before .before .before .before .args .roots .right)) (c .before .before .before .before .before .before .before .before .before .before .before .before .args .p) (c .before .before .before .before .before .before .before .before .before .before .before .before .args .left) (c .before .before .before .before .before .before .before .before .before .before .before .before .args .right) (c .before .before .before .before .before .before .before .before .before .before .before .before .args .levels) _ (c .before .before .before .loop .inv) (c .before .before .loop-test .taken)) (sym (c .before .child-equal .ensures) ∙ not-true _ (c .if2 .taken))
+pair-equal-returns-2 t c = comparing-fails (sideOf (c .before .before .before .before .before .before .before .before .before .before .before .before .args .l .now) (c .before .before .before .before .before .before .before .before .before .before .before .before .args .roots .left)) (sideOf (c .before .before .before .before .before .before .before .before .before .before .before .before .args .r .now) (c .before .before .before .before .before .before .before .before .before .before .before .before .args .roots .right)) (c .before .before .before .before .before .before .before .before .before .before .before .before .args .p) (c .before .before .before .before .before .before .before .before .before .before .before .before .args .left) (c .before .before .before .before .before .before .before .before .before .before .before .before .args .right) (c .before .before .before .before .before .before .before .before .before .before .before .before .args .levels) _ _ (c .before .before .before .before .before .before .before .before .before .kept-data .ensures) (c .before .before .before .before .before .before .before .before .kept-data2 .ensures) (c .before .before .before .before .before .before .before .if1 .left) _ (next-inside (sideOf (c .before .before .before .before .before .before .before .before .before .before .before .before .args .l .now) (c .before .before .before .before .before .before .before .before .before .before .before .before .args .roots .left)) (sideOf (c .before .before .before .before .before .before .before .before .before .before .before .before .args .r .now) (c .before .before .before .before .before .before .before .before .before .before .before .before .args .roots .right)) (c .before .before .before .before .before .before .before .before .before .before .before .before .args .p) (c .before .before .before .before .before .before .before .before .before .before .before .before .args .left) (c .before .before .before .before .before .before .before .before .before .before .before .before .args .right) (c .before .before .before .before .before .before .before .before .before .before .before .before .args .levels) _ (c .before .before .before .loop .inv) (omega (arith, c .before .before .loop-test .taken))) (sym (c .before .child-equal .ensures) ∙ not-true _ (c .if2 .taken))
 
 pair-equal-shl-todo : (t : ℕ) → pair-equal-lts.Need-shl-todo (
   kept-data-reads.Asked,
@@ -255,7 +255,7 @@ pair-equal-shl-todo : (t : ℕ) → pair-equal-lts.Need-shl-todo (
   child-equal-below t,
   child-equal.Post,
 ) (pair-equal-at t) pair-equal.Post pair-equal-Inv-loop pair-equal-μ-loop
-pair-equal-shl-todo t c = next-inside (sideOf (c .before .before .before .before .before .before .before .before .before .before .before .before .args .l .now) (c .before .before .before .before .before .before .before .before .before .before .before .before .args .roots .left)) (sideOf (c .before .before .before .before .before .before .before .before .before .before .before .before .args .r .now) (c .before .before .before .before .before .before .before .before .before .before .before .before .args .roots .right)) (c .before .before .before .before .before .before .before .before .before .before .before .before .args .p) (c .before .before .before .before .before .before .before .before .before .before .before .before .args .left) (c .before .before .before .before .before .before .before .before .before .before .before .before .args .right) (c .before .before .before .before .before .before .before .before .before .before .before .before .args .levels) _ (c .before .before .before .loop .inv) (c .before .before .loop-test .taken)
+pair-equal-shl-todo t c = next-inside (sideOf (c .before .before .before .before .before .before .before .before .before .before .before .before .args .l .now) (c .before .before .before .before .before .before .before .before .before .before .before .before .args .roots .left)) (sideOf (c .before .before .before .before .before .before .before .before .before .before .before .before .args .r .now) (c .before .before .before .before .before .before .before .before .before .before .before .before .args .roots .right)) (c .before .before .before .before .before .before .before .before .before .before .before .before .args .p) (c .before .before .before .before .before .before .before .before .before .before .before .before .args .left) (c .before .before .before .before .before .before .before .before .before .before .before .before .args .right) (c .before .before .before .before .before .before .before .before .before .before .before .before .args .levels) _ (c .before .before .before .loop .inv) (omega (arith, c .before .before .loop-test .taken))
 
 pair-equal-sub-todo : (t : ℕ) → pair-equal-lts.Need-sub-todo (
   kept-data-reads.Asked,
@@ -267,7 +267,7 @@ pair-equal-sub-todo : (t : ℕ) → pair-equal-lts.Need-sub-todo (
   child-equal-below t,
   child-equal.Post,
 ) (pair-equal-at t) pair-equal.Post pair-equal-Inv-loop pair-equal-μ-loop
-pair-equal-sub-todo t c = omega (arith, next-shift (sideOf (c .before .before .before .before .before .before .before .before .before .before .before .before .args .l .now) (c .before .before .before .before .before .before .before .before .before .before .before .before .args .roots .left)) (sideOf (c .before .before .before .before .before .before .before .before .before .before .before .before .args .r .now) (c .before .before .before .before .before .before .before .before .before .before .before .before .args .roots .right)) (c .before .before .before .before .before .before .before .before .before .before .before .before .args .p) (c .before .before .before .before .before .before .before .before .before .before .before .before .args .left) (c .before .before .before .before .before .before .before .before .before .before .before .before .args .right) (c .before .before .before .before .before .before .before .before .before .before .before .before .args .levels) _ (c .before .before .before .loop .inv) (c .before .before .loop-test .taken), next-there (sideOf (c .before .before .before .before .before .before .before .before .before .before .before .before .args .l .now) (c .before .before .before .before .before .before .before .before .before .before .before .before .args .roots .left)) (sideOf (c .before .before .before .before .before .before .before .before .before .before .before .before .args .r .now) (c .before .before .before .before .before .before .before .before .before .before .before .before .args .roots .right)) (c .before .before .before .before .before .before .before .before .before .before .before .before .args .p) (c .before .before .before .before .before .before .before .before .before .before .before .before .args .left) (c .before .before .before .before .before .before .before .before .before .before .before .before .args .right) (c .before .before .before .before .before .before .before .before .before .before .before .before .args .levels) _ (c .before .before .before .loop .inv) (c .before .before .loop-test .taken))
+pair-equal-sub-todo t c = omega (arith, next-shift (sideOf (c .before .before .before .before .before .before .before .before .before .before .before .before .args .l .now) (c .before .before .before .before .before .before .before .before .before .before .before .before .args .roots .left)) (sideOf (c .before .before .before .before .before .before .before .before .before .before .before .before .args .r .now) (c .before .before .before .before .before .before .before .before .before .before .before .before .args .roots .right)) (c .before .before .before .before .before .before .before .before .before .before .before .before .args .p) (c .before .before .before .before .before .before .before .before .before .before .before .before .args .left) (c .before .before .before .before .before .before .before .before .before .before .before .before .args .right) (c .before .before .before .before .before .before .before .before .before .before .before .before .args .levels) _ (c .before .before .before .loop .inv) (omega (arith, c .before .before .loop-test .taken)), next-there (sideOf (c .before .before .before .before .before .before .before .before .before .before .before .before .args .l .now) (c .before .before .before .before .before .before .before .before .before .before .before .before .args .roots .left)) (sideOf (c .before .before .before .before .before .before .before .before .before .before .before .before .args .r .now) (c .before .before .before .before .before .before .before .before .before .before .before .before .args .roots .right)) (c .before .before .before .before .before .before .before .before .before .before .before .before .args .p) (c .before .before .before .before .before .before .before .before .before .before .before .before .args .left) (c .before .before .before .before .before .before .before .before .before .before .before .before .args .right) (c .before .before .before .before .before .before .before .before .before .before .before .before .args .levels) _ (c .before .before .before .loop .inv) (omega (arith, c .before .before .loop-test .taken)))
 
 pair-equal-loop-less : (t : ℕ) → pair-equal-lts.Need-loop-less (
   kept-data-reads.Asked,
@@ -279,7 +279,7 @@ pair-equal-loop-less : (t : ℕ) → pair-equal-lts.Need-loop-less (
   child-equal-below t,
   child-equal.Post,
 ) (pair-equal-at t) pair-equal.Post pair-equal-Inv-loop pair-equal-μ-loop
-pair-equal-loop-less t c = omega (arith, next-shift (sideOf (c .before .before .before .before .before .before .before .before .before .before .before .before .args .l .now) (c .before .before .before .before .before .before .before .before .before .before .before .before .args .roots .left)) (sideOf (c .before .before .before .before .before .before .before .before .before .before .before .before .args .r .now) (c .before .before .before .before .before .before .before .before .before .before .before .before .args .roots .right)) (c .before .before .before .before .before .before .before .before .before .before .before .before .args .p) (c .before .before .before .before .before .before .before .before .before .before .before .before .args .left) (c .before .before .before .before .before .before .before .before .before .before .before .before .args .right) (c .before .before .before .before .before .before .before .before .before .before .before .before .args .levels) _ (c .before .before .before .loop .inv) (c .before .before .loop-test .taken), next-there (sideOf (c .before .before .before .before .before .before .before .before .before .before .before .before .args .l .now) (c .before .before .before .before .before .before .before .before .before .before .before .before .args .roots .left)) (sideOf (c .before .before .before .before .before .before .before .before .before .before .before .before .args .r .now) (c .before .before .before .before .before .before .before .before .before .before .before .before .args .roots .right)) (c .before .before .before .before .before .before .before .before .before .before .before .before .args .p) (c .before .before .before .before .before .before .before .before .before .before .before .before .args .left) (c .before .before .before .before .before .before .before .before .before .before .before .before .args .right) (c .before .before .before .before .before .before .before .before .before .before .before .before .args .levels) _ (c .before .before .before .loop .inv) (c .before .before .loop-test .taken), pow-pos (trailingZeros 32 (c .before .before .before .loop .todo)))
+pair-equal-loop-less t c = omega (arith, next-shift (sideOf (c .before .before .before .before .before .before .before .before .before .before .before .before .args .l .now) (c .before .before .before .before .before .before .before .before .before .before .before .before .args .roots .left)) (sideOf (c .before .before .before .before .before .before .before .before .before .before .before .before .args .r .now) (c .before .before .before .before .before .before .before .before .before .before .before .before .args .roots .right)) (c .before .before .before .before .before .before .before .before .before .before .before .before .args .p) (c .before .before .before .before .before .before .before .before .before .before .before .before .args .left) (c .before .before .before .before .before .before .before .before .before .before .before .before .args .right) (c .before .before .before .before .before .before .before .before .before .before .before .before .args .levels) _ (c .before .before .before .loop .inv) (omega (arith, c .before .before .loop-test .taken)), next-there (sideOf (c .before .before .before .before .before .before .before .before .before .before .before .before .args .l .now) (c .before .before .before .before .before .before .before .before .before .before .before .before .args .roots .left)) (sideOf (c .before .before .before .before .before .before .before .before .before .before .before .before .args .r .now) (c .before .before .before .before .before .before .before .before .before .before .before .before .args .roots .right)) (c .before .before .before .before .before .before .before .before .before .before .before .before .args .p) (c .before .before .before .before .before .before .before .before .before .before .before .before .args .left) (c .before .before .before .before .before .before .before .before .before .before .before .before .args .right) (c .before .before .before .before .before .before .before .before .before .before .before .before .args .levels) _ (c .before .before .before .loop .inv) (omega (arith, c .before .before .loop-test .taken)), pow-pos (trailingZeros 32 (c .before .before .before .loop .todo)))
 
 pair-equal-loop-again : (t : ℕ) → pair-equal-lts.Need-loop-again (
   kept-data-reads.Asked,
@@ -291,7 +291,7 @@ pair-equal-loop-again : (t : ℕ) → pair-equal-lts.Need-loop-again (
   child-equal-below t,
   child-equal.Post,
 ) (pair-equal-at t) pair-equal.Post pair-equal-Inv-loop pair-equal-μ-loop
-pair-equal-loop-again t c = rw (next-shift (sideOf (c .before .before .before .before .before .before .before .before .before .before .before .before .args .l .now) (c .before .before .before .before .before .before .before .before .before .before .before .before .args .roots .left)) (sideOf (c .before .before .before .before .before .before .before .before .before .before .before .before .args .r .now) (c .before .before .before .before .before .before .before .before .before .before .before .before .args .roots .right)) (c .before .before .before .before .before .before .before .before .before .before .before .before .args .p) (c .before .before .before .before .before .before .before .before .before .before .before .before .args .left) (c .before .before .before .before .before .before .before .before .before .before .before .before .args .right) (c .before .before .before .before .before .before .before .before .before .before .before .before .args .levels) _ (c .before .before .before .loop .inv) (c .before .before .loop-test .taken)) (comparing-on (sideOf (c .before .before .before .before .before .before .before .before .before .before .before .before .args .l .now) (c .before .before .before .before .before .before .before .before .before .before .before .before .args .roots .left)) (sideOf (c .before .before .before .before .before .before .before .before .before .before .before .before .args .r .now) (c .before .before .before .before .before .before .before .before .before .before .before .before .args .roots .right)) (c .before .before .before .before .before .before .before .before .before .before .before .before .args .p) (c .before .before .before .before .before .before .before .before .before .before .before .before .args .left) (c .before .before .before .before .before .before .before .before .before .before .before .before .args .right) (c .before .before .before .before .before .before .before .before .before .before .before .before .args .levels) _ (c .before .before .before .loop .inv) (c .before .before .loop-test .taken) (sym (c .before .child-equal .ensures) ∙ not-false _ (c .if2 .left)))
+pair-equal-loop-again t c = rw (next-shift (sideOf (c .before .before .before .before .before .before .before .before .before .before .before .before .args .l .now) (c .before .before .before .before .before .before .before .before .before .before .before .before .args .roots .left)) (sideOf (c .before .before .before .before .before .before .before .before .before .before .before .before .args .r .now) (c .before .before .before .before .before .before .before .before .before .before .before .before .args .roots .right)) (c .before .before .before .before .before .before .before .before .before .before .before .before .args .p) (c .before .before .before .before .before .before .before .before .before .before .before .before .args .left) (c .before .before .before .before .before .before .before .before .before .before .before .before .args .right) (c .before .before .before .before .before .before .before .before .before .before .before .before .args .levels) _ (c .before .before .before .loop .inv) (omega (arith, c .before .before .loop-test .taken))) (comparing-on (sideOf (c .before .before .before .before .before .before .before .before .before .before .before .before .args .l .now) (c .before .before .before .before .before .before .before .before .before .before .before .before .args .roots .left)) (sideOf (c .before .before .before .before .before .before .before .before .before .before .before .before .args .r .now) (c .before .before .before .before .before .before .before .before .before .before .before .before .args .roots .right)) (c .before .before .before .before .before .before .before .before .before .before .before .before .args .p) (c .before .before .before .before .before .before .before .before .before .before .before .before .args .left) (c .before .before .before .before .before .before .before .before .before .before .before .before .args .right) (c .before .before .before .before .before .before .before .before .before .before .before .before .args .levels) _ (c .before .before .before .loop .inv) (omega (arith, c .before .before .loop-test .taken)) (sym (c .before .child-equal .ensures) ∙ not-false _ (c .if2 .left)))
 
 pair-equal-returns-3 : (t : ℕ) → pair-equal-lts.Need-returns-3 (
   kept-data-reads.Asked,
