@@ -1,8 +1,15 @@
 # What one does with this repository. 'make help' lists it.
-.PHONY: help test prove vectors clean
+.PHONY: help run test prove vectors clean
 
 help: ## this list
 	@grep -hE '^[a-z]+:.*## ' $(MAKEFILE_LIST) | sed -E 's/:.*## /	/' | expand -t 12
+
+FILE ?= crates/prefixsets/stdin
+run: ## prove, build and run the text program on FILE, or on the covering union of the manual's A and B
+	@tests/tools
+	@mkdir -p build
+	@rt check prefixsets > build/rt-check.log 2>&1 || { tail -n 20 build/rt-check.log; exit 1; }
+	@target/bin/prefixsets < $(FILE)
 
 test: ## the whole test suite: proofs, must-fail edits, programs, Rust tests
 	@tests/run
