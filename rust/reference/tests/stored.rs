@@ -76,6 +76,7 @@ fn every_fault_is_there_at_both_widths() {
             assert!(has(width, fault, true));
         }
     }
+    assert!(has(32, 2, false));
 }
 
 #[test]

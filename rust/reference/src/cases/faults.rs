@@ -47,7 +47,7 @@ const AT_BOTH_WIDTHS: [Faulty; 37] = [
     (8, 2, &[1, 3, 1, 0, 6, 0, 3, 1, 0, 0, 3, 1]),
 ];
 
-/// Adds them all but fault 2, whose pool is too long to store; tests/document.rs has it.
+/// Adds them all but the one for fault 2.
 pub fn add(list: &mut CaseList) {
     for width in [32, 64] {
         for (fault, node, words) in AT_BOTH_WIDTHS {
@@ -110,4 +110,10 @@ fn all_children() -> Vec<u32> {
         words.extend([0, 0, 33, 0]);
     }
     words
+}
+
+/// Adds the one pool for fault 2; it is long, so it comes last in the file.
+pub fn add_largest(list: &mut CaseList) {
+    let words = vec![0; 65_537 * 4];
+    list.check("65,537 nodes: fault 2 at node 0", 32, &words);
 }

@@ -23,6 +23,7 @@ pub fn all() -> Vec<Stored> {
     refusals::add(&mut list);
     same_and_tidy::add(&mut list);
     random::add(&mut list);
+    faults::add_largest(&mut list);
     list.cases.into_iter().map(Case::store).collect()
 }
 
