@@ -1,4 +1,5 @@
 // Runs the calls on stored cases and on pools too large to store, and says how many came out wrong.
+mod large;
 mod replay;
 mod scan;
 
@@ -39,6 +40,11 @@ fn say(n: u64, words: &[u8]) {
 }
 
 fn main() {
+    if large::all_right() {
+        io::write_all(STDOUT_FILENO, b"the large pools came out right\n");
+    } else {
+        io::write_all(STDOUT_FILENO, b"the large pools came out WRONG\n");
+    }
     let mut space = io::large_buffer();
     let totals = replay::input(&mut space);
     say(totals.cases, b" stored cases replayed\n");
