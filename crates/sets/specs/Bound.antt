@@ -1,11 +1,11 @@
--- A pool without a fault has at most 31 entries for each of its nodes, so that a count of records fits.
+-- A pool without a fault has at most as many entries as values, so that its last node says how many records a list may have.
 use mathlib.Core.Path.{_≡_, refl, sym, _∙_, ap, subst}
 use mathlib.Core.Bool.{Bool, true, false, not}
 use mathlib.Core.List.{List, [], _∷_, _++_, map}
 use mathlib.Core.Option.{Option, none, some}
 use Prim.Native.Nat.{ℕ, zero, suc, _+_, _*_, _-_, _/_, _%_, _^_, _≤_, _<_}
 use native.Mathlib.Omega.{arith}
-use native.Mathlib.Nat.{mod-lt, zero-add, mul-add, add-mul, mul-assoc}
+use native.Mathlib.Nat.{le-trans, mod-lt, zero-add, mul-add, add-mul, mul-assoc}
 use borrow.Author.Tests.{eqb-true, eqb-false}
 use lib.ListN.{length, length-append, length-map}
 use Rattle.defs.specs.declared.Prefix.{Prefix}
@@ -20,7 +20,8 @@ use Rattle.defs.specs.Lists.{put, merge, allOf, find, isIn, isLed, longest, pla
 use Rattle.defs.specs.Outcome.{Side, entriesOf}
 use Rattle.defs.specs.Lemmas.{split, each-append}
 use Rattle.bits.specs.WordLaws.{rank-le, rank-suc}
-use Rattle.pool.specs.Sound.{Formed, childrenBefore, children-mono, children-all}
+use Rattle.pool.specs.Sound.{Formed, childrenBefore, valuesBefore, children-mono, children-all, values-mono, values-small}
+use Rattle.view.specs.Spreads.{one}
 
 -- f at `count` numbers from a on, added up
 abbrev pub sumFrom : (ℕ → ℕ) → ℕ → ℕ → ℕ
@@ -37,7 +38,28 @@ sum-join f a m (suc n) =
 -- at most so many entries lie in node i and below it
 abbrev pub most : List ℕ → ℕ → ℕ → ℕ
 most w zero i = 0
-most w (suc lv) i = 31 + sumFrom (most w lv) (firstChild w i) (ones (childOf w i))
+most w (suc lv) i = ones (dataOf w i) + sumFrom (most w lv) (firstChild w i) (ones (childOf w i))
+
+-- the set data bits of a bitmap at the place of n bits of value v and k levels down from it
+abbrev bitsIn : ℕ → ℕ → ℕ → ℕ → ℕ
+bitsIn d zero n v = 0
+bitsIn d (suc k) n v = one (bit (dataBit n v) d) + (bitsIn d k (suc n) (2 * v) + bitsIn d k (suc n) (2 * v + 1))
+
+one-more : (b d : ℕ) → rank (suc b) d ≡ rank b d + one (bit b d)
+one-more b d =
+    split (bit b d) (λ e. rw e (omega (arith, rank-suc b d, eqb-true (d / 2 ^ b % 2) 1 e)))
+    (λ e. let n : d / 2 ^ b % 2 ≡ 1 → ⊥ = eqb-false (d / 2 ^ b % 2) 1 e in rw e (omega (arith, rank-suc b d, mod-lt (d / 2 ^ b) {m = 2} (omega arith))))
+
+-- the bits of the first four levels, and those of the fifth
+low-bits : (d : ℕ) → one (bit 0 d) + one (bit 1 d) + one (bit 2 d) + one (bit 3 d) + one (bit 4 d) + one (bit 5 d) + one (bit 6 d) + one (bit 7 d) + one (bit 8 d) + one (bit 9 d) + one (bit 10 d) + one (bit 11 d) + one (bit 12 d) + one (bit 13 d) + one (bit 14 d) ≤ rank 15 d
+low-bits d = omega (arith, one-more 0 d, one-more 1 d, one-more 2 d, one-more 3 d, one-more 4 d, one-more 5 d, one-more 6 d, one-more 7 d, one-more 8 d, one-more 9 d, one-more 10 d, one-more 11 d, one-more 12 d, one-more 13 d, one-more 14 d)
+
+high-bits : (d : ℕ) → one (bit 15 d) + one (bit 16 d) + one (bit 17 d) + one (bit 18 d) + one (bit 19 d) + one (bit 20 d) + one (bit 21 d) + one (bit 22 d) + one (bit 23 d) + one (bit 24 d) + one (bit 25 d) + one (bit 26 d) + one (bit 27 d) + one (bit 28 d) + one (bit 29 d) + one (bit 30 d) + rank 15 d ≤ ones d
+high-bits d = omega (arith, one-more 15 d, one-more 16 d, one-more 17 d, one-more 18 d, one-more 19 d, one-more 20 d, one-more 21 d, one-more 22 d, one-more 23 d, one-more 24 d, one-more 25 d, one-more 26 d, one-more 27 d, one-more 28 d, one-more 29 d, one-more 30 d, one-more 31 d)
+
+-- all 31 places are counted once
+bits-in : (d : ℕ) → bitsIn d 5 0 0 ≤ ones d
+bits-in d = omega (arith, low-bits d, high-bits d)
 
 -- what a child place may hold
 abbrev kid : List ℕ → ℕ → ℕ → ℕ → ℕ
@@ -62,13 +84,13 @@ module _ (w : List ℕ) (lv : ℕ) (i : ℕ) where
     abbrev held : Place → List Entry
     held = heldAt w (entriesAt w lv) i p
 
-    data-most : (n v : ℕ) → length (held (dataPlace n v)) ≤ 1
+    data-most : (n v : ℕ) → length (held (dataPlace n v)) ≤ one (bit (dataBit n v) (dataOf w i))
     data-most n v = split (bit (dataBit n v) (dataOf w i)) (λ b. rw b (omega arith)) (λ b. rw b (omega arith))
 
     child-most : (c : ℕ) → length (held (childPlace c)) ≤ kid w lv i c
     child-most c = split (bit c (childOf w i)) (λ b. rw b (below _ (deeper p 5 c))) (λ b. rw b (omega arith))
 
-    tree-most : (k n v : ℕ) → length (each held (placesAt k n v)) + 1 ≤ 2 ^ k + sumFrom (kid w lv i) (v * 2 ^ k) (2 ^ k)
+    tree-most : (k n v : ℕ) → length (each held (placesAt k n v)) ≤ bitsIn (dataOf w i) k n v + sumFrom (kid w lv i) (v * 2 ^ k) (2 ^ k)
     tree-most zero n v =
         let e : v * 1 + 0 ≡ v = omega arith in
         let h = child-most v in
@@ -88,7 +110,10 @@ module _ (w : List ℕ) (lv : ℕ) (i : ℕ) where
 
     node-most : length (entriesAt w (suc lv) i p) ≤ most w (suc lv) i
     unfolding places
-    node-most = omega (arith, tree-most 5 0 0, kids-sum 32)
+    node-most = both _ _ _ _ _ (tree-most 5 0 0) (bits-in (dataOf w i)) (kids-sum 32)
+      where
+        both : (x a b c d : ℕ) → x ≤ a + b → a ≤ c → b ≡ d → x ≤ c + d
+        both x a b c d h k e = omega arith
 
 entries-most : (w : List ℕ) (lv i : ℕ) (p : Prefix) → length (entriesAt w lv i p) ≤ most w lv i
 entries-most w zero i p = omega arith
@@ -97,9 +122,11 @@ entries-most w (suc lv) i p = node-most w lv i p (entries-most w lv)
 module _ (width : ℕ) (w : List ℕ) (formed : Formed width w) where
   -- the children of m nodes from node a on are d nodes from the first child of node a on
   range : (lv a m d : ℕ) → a + m ≤ nodeCount w → childrenBefore w (a + m) ≡ childrenBefore w a + d
-      → sumFrom (most w (suc lv)) a m ≡ 31 * m + sumFrom (most w lv) (1 + childrenBefore w a) d
+      → sumFrom (most w (suc lv)) a m + valuesBefore w a ≡ valuesBefore w (a + m) + sumFrom (most w lv) (1 + childrenBefore w a) d
   range lv a zero d h e =
-      let z : d ≡ 0 = omega (arith, ap (childrenBefore w) (let y : a + 0 ≡ a = omega arith in y)) in rw z
+      let y : a + 0 ≡ a = omega arith in
+      let z : d ≡ 0 = omega (arith, ap (childrenBefore w) y) in
+      rw z (omega (arith, ap (valuesBefore w) y))
   range lv a (suc m) d h e =
       let k = a + m in
       let s : a + suc m ≡ suc k = omega arith in
@@ -109,10 +136,10 @@ module _ (width : ℕ) (w : List ℕ) (formed : Formed width w) where
       let split-d : d ≡ d′ + ones (childOf w k) = omega arith in
       let first : firstChild w k ≡ 1 + childrenBefore w a + d′ = omega (arith, formed .node k (omega arith) .child) in
       rw (split-d, sum-join (most w lv) (1 + childrenBefore w a) d′ (ones (childOf w k)), ← first)
-      (omega (arith, range lv a m d′ (omega arith) (omega arith)))
+      (omega (arith, range lv a m d′ (omega arith) (omega arith), ap (valuesBefore w) s))
 
-  level-most : (lv a m : ℕ) → a + m ≤ nodeCount w → a + m ≤ 1 + childrenBefore w a → sumFrom (most w lv) a m + 31 * a ≤ 31 * nodeCount w
-  level-most zero a m h g = omega (arith, none a m)
+  level-most : (lv a m : ℕ) → a + m ≤ nodeCount w → a + m ≤ 1 + childrenBefore w a → sumFrom (most w lv) a m + valuesBefore w a ≤ valuesBefore w (nodeCount w)
+  level-most zero a m h g = omega (arith, none a m, values-mono width w formed a (nodeCount w) (omega arith))
     where
       none : (a m : ℕ) → sumFrom (most w 0) a m ≡ 0
       none a zero = refl
@@ -123,11 +150,12 @@ module _ (width : ℕ) (w : List ℕ) (formed : Formed width w) where
       let up = children-mono width w formed (a + m) (nodeCount w) h in
       let next = children-mono width w formed (a + m) (1 + childrenBefore w a) g in
       let r = range lv a m d h (omega arith) in
+      let more = values-mono width w formed (a + m) (1 + childrenBefore w a) g in
       let ih = level-most lv (1 + childrenBefore w a) d (omega (arith, children-all width w formed)) (omega arith) in
       omega arith
 
-  -- at most 31 entries for each node
-  pub all-most : length (allEntries w) ≤ 31 * nodeCount w
+  -- at most as many entries as values
+  pub all-most : length (allEntries w) ≤ valuesBefore w (nodeCount w)
   all-most = omega (arith, entries-most w 13 0 top, level-most 13 0 1 (formed .some) (omega arith))
 
 keep-most : {A : Type 0} (f : A → Bool) (a : List A) → length (keep f a) ≤ length a
@@ -151,29 +179,45 @@ merge-most : (a b : List Prefix) → length (merge a b) ≤ length a + length b
 merge-most [] b = omega arith
 merge-most (p ∷ a) b = omega (arith, put-most p (merge a b), merge-most a b)
 
--- a list has at most as many records as both sides have entries
-pub records-most : (op : Operation) (L R : List Entry) → length (recordsOf op L R) ≤ length L + length R
+-- the most records of a list of sides with a and b entries: those of the left one, or of both
+abbrev pub mostFrom : Operation → ℕ → ℕ → ℕ
+mostFrom Union a b = a + b
+mostFrom Intersection a b = a
+mostFrom Difference a b = a
+mostFrom CoveringDifference a b = a
+mostFrom CoveringUnion a b = a + b
+
+records-most : (op : Operation) (L R : List Entry) → length (recordsOf op L R) ≤ mostFrom op (length L) (length R)
 records-most Union L R =
     rw (length-map (allOf L R) (λ p. plain p (find p L) (find p R)))
     (omega (arith, merge-most (prefixes L) (prefixes R), length-map L (λ (e : Entry). e .at), length-map R (λ (e : Entry). e .at)))
-records-most Intersection L R = rw (length-map (keep (λ e. isIn (e .at) R) L) (λ e. plain (e .at) (some e) (find (e .at) R))) (omega (arith, keep-most (λ e. isIn (e .at) R) L))
-records-most Difference L R = rw (length-map (keep (λ e. not (isIn (e .at) R)) L) leftOnly) (omega (arith, keep-most (λ e. not (isIn (e .at) R)) L))
-records-most CoveringDifference L R = rw (length-map (keep (λ e. not (isLed (e .at) R)) L) leftOnly) (omega (arith, keep-most (λ e. not (isLed (e .at) R)) L))
+records-most Intersection L R = rw (length-map (keep (λ e. isIn (e .at) R) L) (λ e. plain (e .at) (some e) (find (e .at) R))) (keep-most (λ e. isIn (e .at) R) L)
+records-most Difference L R = rw (length-map (keep (λ e. not (isIn (e .at) R)) L) leftOnly) (keep-most (λ e. not (isIn (e .at) R)) L)
+records-most CoveringDifference L R = rw (length-map (keep (λ e. not (isLed (e .at) R)) L) leftOnly) (keep-most (λ e. not (isLed (e .at) R)) L)
 records-most CoveringUnion L R =
     rw (length-map (allOf L R) (λ p. covered p (find p L) (find p R) (longest none L p) (longest none R p)))
     (omega (arith, merge-most (prefixes L) (prefixes R), length-map L (λ (e : Entry). e .at), length-map R (λ (e : Entry). e .at)))
 
--- so a list of two pools without faults has at most 62 records for each node that a pool may have
-pub list-most : (op : Operation) (width : ℕ) (l r : Side) → Formed width (l .pool) → Formed width (r .pool)
-    → length (recordsOf op (entriesOf l) (entriesOf r)) ≤ 62 * poolLimit
-list-most op width l r f g =
-    omega (
-      arith,
-      records-most op (entriesOf l) (entriesOf r),
-      keep-most (λ e. leads (l .root) (e .at)) (allEntries (l .pool)),
-      keep-most (λ e. leads (r .root) (e .at)) (allEntries (r .pool)),
-      all-most width (l .pool) f,
-      all-most width (r .pool) g,
-      f .most,
-      g .most,
-    )
+most-grows : (op : Operation) (a b c d : ℕ) → a ≤ c → b ≤ d → mostFrom op a b ≤ mostFrom op c d
+most-grows Union a b c d h k = omega arith
+most-grows Intersection a b c d h k = h
+most-grows Difference a b c d h k = h
+most-grows CoveringDifference a b c d h k = h
+most-grows CoveringUnion a b c d h k = omega arith
+
+-- the values of a pool
+abbrev pub valuesOf : List ℕ → ℕ
+valuesOf w = valuesBefore w (nodeCount w)
+
+-- a list of two pools without faults has at most as many records as they have values
+module _ (op : Operation) (width : ℕ) (l r : Side) (f : Formed width (l .pool)) (g : Formed width (r .pool)) where
+  pub list-most : length (recordsOf op (entriesOf l) (entriesOf r)) ≤ mostFrom op (valuesOf (l .pool)) (valuesOf (r .pool))
+  list-most =
+      le-trans (records-most op (entriesOf l) (entriesOf r))
+      (most-grows op _ _ _ _
+      (omega (arith, keep-most (λ e. leads (l .root) (e .at)) (allEntries (l .pool)), all-most width (l .pool) f))
+      (omega (arith, keep-most (λ e. leads (r .root) (e .at)) (allEntries (r .pool)), all-most width (r .pool) g)))
+
+-- a pool has at most 31 values for each node
+pub values-fit : (width : ℕ) (w : List ℕ) → Formed width w → valuesOf w ≤ 31 * poolLimit
+values-fit width w f = omega (arith, values-small width w f (nodeCount w) (omega arith), f .most)

@@ -13,7 +13,8 @@ use Rattle.defs.specs.declared.Answer.{Answer}
 use Rattle.defs.specs.declared.Operation.{Operation}
 use Rattle.defs.specs.declared.Operation.the-variants.{Union, Intersection, Difference, CoveringDifference, CoveringUnion}
 use Rattle.defs.specs.Basics.{if_then_else_}
-use Rattle.defs.specs.Check.{faultOf}
+use Rattle.defs.specs.Pool.{nodeCount, dataOf, firstValue, ones}
+use Rattle.defs.specs.Check.{poolLimit, faultOf}
 use Rattle.defs.specs.Lists.{Record, recordWords, recordsOf}
 use Rattle.defs.specs.Lemmas.{All, nil, more, split, not-both}
 use Rattle.defs.specs.Outcome
@@ -22,7 +23,7 @@ use Rattle.defs.specs.OutcomeLaws.{numberOf, refused-keeps}
 use Rattle.defs.specs.PrefixLaws.{cut, first-agree}
 use Rattle.bits.specs.Words.{commonLen}
 use Rattle.bits.specs.CommonLaws.{common-le, common-says}
-use Rattle.pool.specs.Sound.{Formed, formed}
+use Rattle.pool.specs.Sound.{Formed, formed, valuesBefore}
 use Rattle.pool.specs.Answers.{zero-says, one-says, one-of, two-says, two-else}
 use Rattle.theory.specs.declared.Node.{Node}
 use Rattle.theory.specs.declared.Level.{Level}
@@ -36,7 +37,7 @@ use Rattle.view.specs.Descent.{cutTo, nodeDown, whole-cut, view-down, node-down
 use Rattle.sets.specs.declared.Roots.{Roots}
 use Rattle.sets.specs.Ready.{jobOf, Entering, Ready}
 use Rattle.sets.specs.Aligned.{depth-at}
-use Rattle.sets.specs.Bound.{list-most}
+use Rattle.sets.specs.Bound.{mostFrom, valuesOf, list-most, values-fit}
 use Rattle.sets.specs.Loops.{writtenOver}
 
 -- a side of a call
@@ -154,21 +155,52 @@ leaves a o = record { answer = a; output = o }
 abbrev pub roomOutcome : List Record → List ℕ → Listed
 roomOutcome rs out = if ltb (length out / recordWords) (length rs) then leaves (answer 6 (length rs) 0) out else leaves (answer 0 (length rs) 0) (writtenOver rs out)
 
--- w: the words of a record, as code has them
-module _ (rs : List Record) (out : List ℕ) (n : ℕ) (e : n ≡ length rs) (w : ℕ) (ew : w ≡ recordWords) where
-  pub room-none : (a : Answer) → a ≡ answer 6 n 0 → length out / w < n → leaves a out ≡ roomOutcome rs out
-  room-none a ea h =
-      ap (λ (x : Answer). leaves x out) ea ∙ rw (lt-ltb (length out / recordWords) (length rs) (rw (e, ew) at h)) (ap (λ (m : ℕ). leaves (answer 6 m 0) out) e)
+-- the values of a pool, read off its last node
+pub last-values : (w : List ℕ) → Sane w → (a : ℕ) → a ≡ firstValue w (length w / 4 - 1) → (b : ℕ) → b ≡ ones (dataOf w (length w / 4 - 1)) → a + b ≡ valuesOf w
+last-values w s a ea b eb =
+    let i = length w / 4 - 1 in
+    let n : suc i ≡ nodeCount w = (let h = s .formed .some in omega arith) in
+    ap₂ _+_ (ea ∙ s .formed .node i (omega arith) .value) eb ∙ ap (valuesBefore w) n
 
-  pub room-done : (a : Answer) → a ≡ answer 0 n 0 → (o : List ℕ) → o ≡ writtenOver rs out → n ≤ length out / w → leaves a o ≡ roomOutcome rs out
-  room-done a ea o eo h =
-      ap₂ leaves ea eo ∙ rw (le-ltb (length out / recordWords) (length rs) (rw (e, ew) at h)) (ap (λ (m : ℕ). leaves (answer 0 m 0) (writtenOver rs out)) e)
+pub sane-values : (w : List ℕ) → Sane w → valuesOf w ≤ 31 * poolLimit
+sane-values w s = values-fit (s .width) w (s .formed)
 
-  pub room-enough : n ≤ length out / w → recordWords * length rs ≤ length out
-  room-enough h = enough (length out) n e (rw ew at h)
+-- a level's records do not outnumber the values of the pools
+abbrev pub Few : Job → Level → Type 0
+Few j f = length (levelRest j f) ≤ mostFrom (j .op) (valuesOf (j .left .pool)) (valuesOf (j .right .pool))
+
+-- so a count of them fits
+pub few-fits : (j : Job) (f : Level) → Ready j f → Few j f → length (levelRest j f) < 2 ^ 64
+few-fits j f r h =
+    omega (arith, mostly (j .op) (valuesOf (j .left .pool)) (valuesOf (j .right .pool)), sane-values (j .left .pool) (r .at .sane-left), sane-values (j .right .pool) (r .at .sane-right))
+  where
+    mostly : (op : Operation) (x y : ℕ) → mostFrom op x y ≤ x + y
+    mostly Union x y = omega arith
+    mostly Intersection x y = omega arith
+    mostly Difference x y = omega arith
+    mostly CoveringDifference x y = omega arith
+    mostly CoveringUnion x y = omega arith
+
+-- the output is as it was when the records are counted, and has room for `room` of them
+module _ (rs : List Record) (out now : List ℕ) (same : now ≡ out) (room : ℕ) (er : room ≡ length now / recordWords) where
+  pub room-none : (n : ℕ) → n ≡ length rs → (a : Answer) → a ≡ answer 6 n 0 → room < n → leaves a now ≡ roomOutcome rs out
+  room-none n e a ea h =
+      ap₂ leaves ea same ∙ rw (lt-ltb (length out / recordWords) (length rs) (rw (e, er, same) at h)) (ap (λ (m : ℕ). leaves (answer 6 m 0) out) e)
+
+  -- n or more records have room
+  pub room-enough : (n : ℕ) → length rs ≤ n → n ≤ room → recordWords * length rs ≤ length now
+  room-enough n e h = enough (length now) (rw er at h)
     where
-      enough : (m n : ℕ) → n ≡ length rs → n ≤ m / 6 → 6 * length rs ≤ m
-      enough m n e h = omega arith
+      enough : (m : ℕ) → n ≤ m / 6 → 6 * length rs ≤ m
+      enough m h = omega arith
+
+pub room-done : (rs : List Record) (out : List ℕ) → recordWords * length rs ≤ length out → (n : ℕ) → n ≡ length rs → (a : Answer) → a ≡ answer 0 n 0
+    → (o : List ℕ) → o ≡ writtenOver rs out → leaves a o ≡ roomOutcome rs out
+room-done rs out h n e a ea o eo =
+    ap₂ leaves ea eo ∙ rw (le-ltb (length out / recordWords) (length rs) (fits (length out) h)) (ap (λ (m : ℕ). leaves (answer 0 m 0) (writtenOver rs out)) e)
+  where
+    fits : (m : ℕ) → 6 * length rs ≤ m → length rs ≤ m / 6
+    fits m h = omega arith
 
 -- ---- the whole call
 module _ (op : Operation) (width : ℕ) (l r : Side) (out : List ℕ) where
@@ -364,8 +396,8 @@ module _ (op : Operation) (width : ℕ) (l r : Side) (a : Answer) (ea : a ≡ fi
   pub right-short : r .root .len ≤ 64
   right-short = let w = passed-width width l r call-passed in let k = call-passed .right-root in omega arith
 
-  pub list-fits : (rs : List Record) → recordsOf op (entriesOf l) (entriesOf r) ≡ rs → length rs < 2 ^ 64
-  list-fits rs e =
+  pub list-few : (f : Level) → let j : Job = record { op = op; left = l; right = r } in recordsOf op (entriesOf l) (entriesOf r) ≡ levelRest j f → Few j f
+  list-few f e =
       let p = call-passed in
-      let h = list-most op width l r (formed width (l .pool) (p .left-pool)) (formed width (r .pool) (p .right-pool)) in
-      omega (arith, ap length e)
+      subst (λ (rs : List Record). length rs ≤ mostFrom op (valuesOf (l .pool)) (valuesOf (r .pool))) e
+      (list-most op width l r (formed width (l .pool) (p .left-pool)) (formed width (r .pool) (p .right-pool)))

@@ -9,11 +9,12 @@ use lib.Dec.{eqb, leb}
 use lib.ListN.{length, getD, set, drop, replicate, length-append}
 use lib.Seq.{sets-eq}
 use borrow.Author.Tests.{eqb-false, leb-false}
-use borrow.Rule.Slice.PartMut.{putMid, midOf}
+use borrow.Rule.Slice.PartMut.{putMid, midOf, put-same}
 use Rattle.defs.specs.declared.Prefix.{Prefix}
 use Rattle.defs.specs.Prefix.{deeper}
 use Rattle.defs.specs.Entries.{Place, dataPlace, childPlace, places}
 use Rattle.defs.specs.Lists.{Record, recordWords, wordsOf}
+use Rattle.defs.specs.Basics.{if_then_else_}
 use Rattle.defs.specs.Lemmas.{split}
 use Rattle.theory.specs.declared.Node.{Node}
 use Rattle.theory.specs.declared.Node.the-variants as node
@@ -245,36 +246,71 @@ run-record P Q j whole ls n r some s is i f e on =
       beside = on (r .done) (one-more j whole ls n (r .done) (r .walks) some s is i f e) (r .beside);
     }
 
--- ---- counting: so many records have been given
-abbrev pub Counted : ℕ → List Record → Type 0
-Counted count done = count ≡ length done
+-- ---- what a loop keeps beside the stack: how many records are given, and those that are written stand in the output
 
-pub counted-more : (count : ℕ) (done : List Record) (r : Record) → Counted count done → Counted (count + 1) (done ++ (r ∷ []))
-counted-more count done r e = rw e (sym (length-append done (r ∷ [])))
+-- the records that stand in the output: all that are given, or none
+abbrev pub shown : Bool → List Record → List Record
+shown true done = done
+shown false done = []
 
--- ---- writing: they stand in the output, and `at` is where the next one goes
-pub record Placed (old out : List ℕ) (at : ℕ) (done : List Record) : Type 0 where
-  pub written : Written old out done
-  pub next : at ≡ recordWords * length done
+-- there is room for what is written
+abbrev pub Room : Bool → List Record → List ℕ → Type 0
+Room writes rs out = recordWords * length (shown writes rs) ≤ length out
 
-pub placed-none : (old : List ℕ) → Placed old old 0 []
-placed-none old = record { written = nothing-written old; next = refl }
+-- a buffer with the records in it, where they are written
+abbrev pub keptOrWritten : Bool → List Record → List ℕ → List ℕ
+keptOrWritten writes rs old = writtenOver (shown writes rs) old
 
-pub placed-all : (old out : List ℕ) (at : ℕ) (whole : List Record) → Placed old out at whole → out ≡ writtenOver whole old
-placed-all old out at whole p = p .written .front
+-- `count` records are given, and `at` is where the next one goes
+pub record Placed (writes : Bool) (old out : List ℕ) (at count : ℕ) (done : List Record) : Type 0 where
+  pub counted : count ≡ length done
+  pub written : Written old out (shown writes done)
+  pub next : at ≡ recordWords * length (shown writes done)
 
--- where the next record goes there is room for it
-pub placed-room : (old out : List ℕ) (at : ℕ) (done whole : List Record) → Placed old out at done → length done + 1 ≤ length whole
-    → recordWords * length whole ≤ length old → at + recordWords ≤ length out
-placed-room old out at done whole p h l = let a = p .next in let b = p .written .same in omega arith
+pub placed-none : (writes : Bool) (old : List ℕ) → Placed writes old old 0 0 []
+placed-none true old = record { counted = refl; written = nothing-written old; next = refl }
+placed-none false old = record { counted = refl; written = nothing-written old; next = refl }
 
-pub placed-more : (old out : List ℕ) (at : ℕ) (done whole : List Record) (r : Record) (part : List ℕ) (step : ℕ) → Placed old out at done → length done + 1 ≤ length whole
-    → recordWords * length whole ≤ length old → part ≡ wordsOf r ++ drop recordWords (midOf at (length out - at) out) → step ≡ recordWords
-    → Placed old (putMid at (length out - at) out part) (at + step) (done ++ (r ∷ []))
-placed-more old out at done whole r part step p h l e s =
+pub placed-all : (writes : Bool) (old out : List ℕ) (at count : ℕ) (whole : List Record) → Placed writes old out at count whole
+    → (count ≡ length whole) × (out ≡ keptOrWritten writes whole old)
+placed-all writes old out at count whole p = (p .counted, p .written .front)
+
+-- how far the output moves on with a record, and what its part is then
+abbrev pub moved : Bool → ℕ
+moved writes = if writes then recordWords else 0
+
+abbrev pub frontOf : Bool → Record → List ℕ → List ℕ
+frontOf writes r part = if writes then wordsOf r ++ drop recordWords part else part
+
+-- what is not written leaves its part as it was, and what is written moves on by its words
+pub not-moved : (writes : Bool) (r : Record) (part : List ℕ) → writes ≡ false → (0 ≡ moved writes) × (part ≡ frontOf writes r part)
+not-moved writes r part e = (rw e, rw e)
+
+pub moved-on : (writes : Bool) (r : Record) (part : List ℕ) (n : ℕ) (after : List ℕ) → writes ≡ true → n ≡ recordWords → after ≡ wordsOf r ++ drop recordWords part
+    → (n ≡ moved writes) × (after ≡ frontOf writes r part)
+moved-on writes r part n after e h k = (h ∙ rw e, k ∙ rw e)
+
+-- where the next record goes there is room for what is written of it
+pub placed-room : (writes : Bool) (old out : List ℕ) (at count : ℕ) (done whole : List Record) → Placed writes old out at count done → length done + 1 ≤ length whole
+    → Room writes whole old → at + moved writes ≤ length out
+placed-room true old out at count done whole p h l = let a = p .next in let b = p .written .same in omega arith
+placed-room false old out at count done whole p h l = let a = p .next in omega arith
+
+pub placed-more : (writes : Bool) (old out : List ℕ) (at count : ℕ) (done whole : List Record) (r : Record) (part : List ℕ) (step : ℕ)
+    → Placed writes old out at count done → length done + 1 ≤ length whole → Room writes whole old
+    → part ≡ frontOf writes r (midOf at (length out - at) out) → step ≡ moved writes
+    → Placed writes old (putMid at (length out - at) out part) (at + step) (count + 1) (done ++ (r ∷ []))
+placed-more true old out at count done whole r part step p h l e s =
     record {
+      counted = let a = p .counted in omega (arith, length-append done (r ∷ []));
       written = written-more old out done r at part (p .written) (p .next) (omega arith) e;
       next = let a = p .next in omega (arith, length-append done (r ∷ []));
+    }
+placed-more false old out at count done whole r part step p h l e s =
+    record {
+      counted = let a = p .counted in omega (arith, length-append done (r ∷ []));
+      written = subst (λ (x : List ℕ). Written old x []) (sym (ap (putMid at (length out - at) out) e ∙ put-same at (length out - at) out)) (p .written);
+      next = let a = p .next in omega arith;
     }
 
 -- six stores at the front of a buffer

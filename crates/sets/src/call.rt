@@ -1,12 +1,13 @@
 // A call from its tests to its answer: the refusals in their order, where the walk starts, and the list.
 ghost use mathlib.Core.Path.{_≡_};
-ghost use Prim.Native.Nat.{_^_, _≤_, _<_};
+ghost use Prim.Native.Nat.{_*_, _/_, _≤_};
 ghost use lib.ListN.{length};
-ghost use Rattle.defs.specs.Lists.{recordsOf};
+ghost use Rattle.defs.specs.Lists.{recordsOf, recordWords};
 ghost use Rattle.defs.specs.Outcome.{firstOf, sideRows, entriesOf, listOutcome};
 ghost use Rattle.theory.specs.Steps.{levelRest};
 ghost use Rattle.view.specs.Standing.{Sane};
-ghost use Rattle.sets.specs.Listing.{sideOf, leaves, roomOutcome};
+ghost use Rattle.sets.specs.Bound.{valuesOf, mostFrom};
+ghost use Rattle.sets.specs.Listing.{Few, sideOf, leaves, roomOutcome};
 ghost use Rattle.sets.specs.Ready.{jobOf, Ready};
 use crate::Roots;
 use crate::covering_difference;
@@ -67,7 +68,76 @@ fn start(op: Operation, l: &[u32], r: &[u32], roots: Roots) -> Level
     }
 }
 
-// The records of a list into the output, or refusal 6 with the number needed: counted before anything is written.
+// The values of a pool: those before its last node, and those in it.
+fn values_in(words: &[u32]) -> u64
+    requires { ⌜ Sane (now words) ⌝ }
+    ensures { λ n. ⌜ n ≡ valuesOf (now (words .entry)) ⌝ }
+{
+    let last = words.len() / 4 - 1;
+    let held = bits::ones(pool::data_bits(words, last));
+    pool::first_value(words, last) as u64 + held as u64
+}
+
+// The most records that a list may have: one for each value of the left pool, or of both.
+fn most_records(op: Operation, l: &[u32], r: &[u32]) -> u64
+    requires { ⌜ Sane (now l) × Sane (now r) ⌝ }
+    ensures { λ n. ⌜ n ≡ mostFrom op (valuesOf (now (l .entry))) (valuesOf (now (r .entry))) ⌝ }
+{
+    let a = values_in(l);
+    let b = values_in(r);
+    match op {
+        Operation::Union => a + b,
+        Operation::Intersection => a,
+        Operation::Difference => a,
+        Operation::CoveringDifference => a,
+        Operation::CoveringUnion => a + b,
+    }
+}
+
+// The records that so many words have room for.
+fn room_in(words: usize) -> u64
+    ensures { λ n. ⌜ n ≡ words / recordWords ⌝ }
+{
+    (words / defs::record_words()) as u64
+}
+
+// The records of a list that fits, written in one walk.
+fn written(
+    op: Operation,
+    l: &[u32],
+    r: &[u32],
+    roots: Roots,
+    start: Level,
+    out: &mut [u64],
+) -> Answer
+    requires { ⌜ Ready (jobOf op (now l) (now r) roots) start × Few (jobOf op (now l) (now r) roots) start ⌝ }
+    requires { ⌜ recordWords * length (levelRest (jobOf op (now l) (now r) roots) start) ≤ length (now out) ⌝ }
+    ensures { λ a. ⌜ leaves a (now (out .exit)) ≡ roomOutcome (levelRest (jobOf op (now (l .entry)) (now (r .entry)) roots) start) (now (out .entry)) ⌝ }
+{
+    let n = walk::run(op, l, r, roots, start, true, out);
+    Answer::new(0, n)
+}
+
+// The records of a list that may not fit, or refusal 6 with the number needed: a walk counts them before anything is written.
+fn counted(
+    op: Operation,
+    l: &[u32],
+    r: &[u32],
+    roots: Roots,
+    start: Level,
+    out: &mut [u64],
+) -> Answer
+    requires { ⌜ Ready (jobOf op (now l) (now r) roots) start × Few (jobOf op (now l) (now r) roots) start ⌝ }
+    ensures { λ a. ⌜ leaves a (now (out .exit)) ≡ roomOutcome (levelRest (jobOf op (now (l .entry)) (now (r .entry)) roots) start) (now (out .entry)) ⌝ }
+{
+    let needed = walk::run(op, l, r, roots, start, false, out);
+    if room_in(out.len()) < needed {
+        return Answer::new(6, needed);
+    }
+    written(op, l, r, roots, start, out)
+}
+
+// The records of a list, or refusal 6. Where every value of the pools would find room, nothing need be counted first.
 fn listed(
     op: Operation,
     l: &[u32],
@@ -76,16 +146,13 @@ fn listed(
     start: Level,
     out: &mut [u64],
 ) -> Answer
-    requires { ⌜ Ready (jobOf op (now l) (now r) roots) start × (length (levelRest (jobOf op (now l) (now r) roots) start) < 2 ^ 64) ⌝ }
+    requires { ⌜ Ready (jobOf op (now l) (now r) roots) start × Few (jobOf op (now l) (now r) roots) start ⌝ }
     ensures { λ a. ⌜ leaves a (now (out .exit)) ≡ roomOutcome (levelRest (jobOf op (now (l .entry)) (now (r .entry)) roots) start) (now (out .entry)) ⌝ }
 {
-    let n = walk::count(op, l, r, roots, start);
-    let room = (out.len() / defs::record_words()) as u64;
-    if room < n {
-        return Answer::new(6, n);
+    if room_in(out.len()) < most_records(op, l, r) {
+        return counted(op, l, r, roots, start, out);
     }
-    walk::write(op, l, r, roots, start, out);
-    Answer::new(0, n)
+    written(op, l, r, roots, start, out)
 }
 
 // A list call: the refusals, then the list.

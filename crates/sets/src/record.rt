@@ -5,6 +5,7 @@ ghost use Prim.Native.Nat.{_≤_};
 ghost use lib.ListN.{length, drop};
 ghost use Rattle.defs.specs.Lists.{wordsOf, recordWords};
 ghost use Rattle.theory.specs.Steps.{itemRecord, valueFor, lenFor};
+ghost use Rattle.sets.specs.Loops.{moved, frontOf};
 use defs::Prefix;
 use theory::Cover;
 use theory::Item;
@@ -85,4 +86,16 @@ pub(crate) fn put(out: &mut [u64], i: Item)
             defs::missing_cover(),
         ),
     }
+}
+
+// The words of an item where they are asked for; how far the output has moved on.
+pub(crate) fn put_if(writes: bool, out: &mut [u64], i: Item) -> usize
+    requires { ⌜ moved writes ≤ length (now out) ⌝ }
+    ensures { λ n. ⌜ (n ≡ moved writes) × (now (out .exit) ≡ frontOf writes (itemRecord i) (now (out .entry))) ⌝ }
+{
+    if !writes {
+        return 0;
+    }
+    put(out, i);
+    defs::record_words()
 }

@@ -11,7 +11,7 @@ ghost use Rattle.theory.specs.Loop.{recordsWords};
 ghost use Rattle.bits.specs.Places.{placeLen, placeValue};
 ghost use Rattle.sets.specs.Ready.{jobOf, Entering, Passing, Ready};
 ghost use Rattle.sets.specs.Maps.{mapsOf};
-ghost use Rattle.sets.specs.Loops.{writtenOver};
+ghost use Rattle.sets.specs.Loops.{Room, keptOrWritten};
 use crate::Roots;
 use crate::covering_difference;
 use crate::difference;
@@ -217,54 +217,25 @@ pub(crate) fn step(op: Operation, l: &[u32], r: &[u32], roots: Roots, top: Level
     }
 }
 
-// How many records there are: the walk without writing.
-pub(crate) fn count(op: Operation, l: &[u32], r: &[u32], roots: Roots, start: Level) -> u64
-    requires { ⌜ Ready (jobOf op (now l) (now r) roots) start ⌝ }
-    requires { ⌜ length (levelRest (jobOf op (now l) (now r) roots) start) < 2 ^ 64 ⌝ }
-    ensures { λ n. ⌜ n ≡ length (levelRest (jobOf op (now (l .entry)) (now (r .entry)) roots) start) ⌝ }
-{
-    let mut stack = [start; 13];
-    let mut n: usize = 1;
-    let mut count: u64 = 0;
-    while 0 < n {
-        let k = n - 1;
-        let top = stack[k];
-        match step(op, l, r, roots, top) {
-            Step::Up => {
-                n = k;
-            }
-            Step::Skip(f) => {
-                stack[k] = f;
-            }
-            Step::Record(i, f) => {
-                stack[k] = f;
-                count += 1;
-            }
-            Step::Down(f, g) => {
-                stack[k] = f;
-                stack[n] = g;
-                n += 1;
-            }
-        }
-    }
-    count
-}
-
-// The records, each into the part of the output that starts after those already written.
-pub(crate) fn write(
+// The walk from a level on: how many records there are, each written after the last one where that is asked for.
+pub(crate) fn run(
     op: Operation,
     l: &[u32],
     r: &[u32],
     roots: Roots,
     start: Level,
+    writes: bool,
     out: &mut [u64],
-)
+) -> u64
     requires { ⌜ Ready (jobOf op (now l) (now r) roots) start ⌝ }
-    requires { ⌜ recordWords * length (levelRest (jobOf op (now l) (now r) roots) start) ≤ length (now out) ⌝ }
-    ensures { λ _. ⌜ now (out .exit) ≡ writtenOver (levelRest (jobOf op (now (l .entry)) (now (r .entry)) roots) start) (now (out .entry)) ⌝ }
+    requires { ⌜ length (levelRest (jobOf op (now l) (now r) roots) start) < 2 ^ 64 ⌝ }
+    requires { ⌜ Room writes (levelRest (jobOf op (now l) (now r) roots) start) (now out) ⌝ }
+    ensures { λ n. ⌜ (n ≡ length (levelRest (jobOf op (now (l .entry)) (now (r .entry)) roots) start))
+        × (now (out .exit) ≡ keptOrWritten writes (levelRest (jobOf op (now (l .entry)) (now (r .entry)) roots) start) (now (out .entry))) ⌝ }
 {
     let mut stack = [start; 13];
     let mut n: usize = 1;
+    let mut count: u64 = 0;
     let mut at: usize = 0;
     while 0 < n {
         let k = n - 1;
@@ -278,8 +249,8 @@ pub(crate) fn write(
             }
             Step::Record(i, f) => {
                 stack[k] = f;
-                record::put(&mut out[at..], i);
-                at += defs::record_words();
+                at += record::put_if(writes, &mut out[at..], i);
+                count += 1;
             }
             Step::Down(f, g) => {
                 stack[k] = f;
@@ -288,4 +259,5 @@ pub(crate) fn write(
             }
         }
     }
+    count
 }

@@ -26,7 +26,7 @@ start-requires c κs = (listing.passed-left (c .before .before .before .before .
 
 -- src/call.rt:93:5
 listed-requires : tie.Need-listed-requires
-listed-requires c κs = (c .before .start .ensures .0, listing.list-fits (c .before .before .before .before .before .before .before .before .args .op) (c .before .before .before .before .before .before .before .before .args .width) (listing.sideOf (c .before .before .before .before .before .before .before .before .args .l .now) (c .before .before .before .before .before .before .before .before .args .roots .left)) (listing.sideOf (c .before .before .before .before .before .before .before .before .args .r .now) (c .before .before .before .before .before .before .before .before .args .roots .right)) _ (c .before .before .before .before .refusal .ensures) (c .before .before .if1 .left) _ (c .before .start .ensures .1))
+listed-requires c κs = (c .before .start .ensures .0, listing.list-few (c .before .before .before .before .before .before .before .before .args .op) (c .before .before .before .before .before .before .before .before .args .width) (listing.sideOf (c .before .before .before .before .before .before .before .before .args .l .now) (c .before .before .before .before .before .before .before .before .args .roots .left)) (listing.sideOf (c .before .before .before .before .before .before .before .before .args .r .now) (c .before .before .before .before .before .before .before .before .args .roots .right)) _ (c .before .before .before .before .refusal .ensures) (c .before .before .if1 .left) (c .before .start .result) (c .before .start .ensures .1))
 
 -- src/call.rt:85:1
 same-length : tie.Need-same-length
