@@ -1,20 +1,25 @@
 -- The nearest entry above a place: place h / 2 stands above place h.
 use mathlib.Core.Path.{_≡_, refl, sym, ap, _∙_}
-use Prim.Native.Nat.{ℕ, _+_, _*_, _/_, _%_, _^_, _≤_, _<_}
+use mathlib.Core.Bool.{false}
+use mathlib.Core.List.{List}
+use Prim.Native.Nat.{ℕ, zero, suc, _+_, _-_, _*_, _/_, _%_, _^_, _≤_, _<_}
 use native.Mathlib.Omega.{arith}
 use Rattle.defs.specs.declared.Prefix.{Prefix}
 use Rattle.defs.specs.Prefix.{deeper}
+use Rattle.defs.specs.Pool.{dataOf, bit}
 use Rattle.defs.specs.PrefixLaws.{Whole}
 use Rattle.defs.specs.Outcome.{Side}
 use Rattle.bits.specs.Places.{placeLen, placeValue, placePrefix}
 use Rattle.bits.specs.PlaceLaws.{place-len, place-len-below, place-prefix, half-len, half-value}
 use Rattle.theory.specs.declared.Node.{Node}
+use Rattle.theory.specs.declared.Node.the-variants.{Absent, At}
 use Rattle.theory.specs.declared.Value.{Value}
 use Rattle.theory.specs.declared.Value.the-variants.{Missing, Is}
 use Rattle.theory.specs.declared.Cover.{Cover}
 use Rattle.theory.specs.declared.Cover.the-variants.{Of}
 use Rattle.theory.specs.Sides.{valueIn}
 use Rattle.theory.specs.Steps.{nearer, coverBits}
+use Rattle.view.specs.Standing.{valueOn, value-unset, value-of}
 
 module _ (s : Side) (o : Node) (p : Prefix) (above : Cover) where
   -- the nearest entry above place h
@@ -80,3 +85,32 @@ module _ (s : Side) (o : Node) (p : Prefix) (above : Cover) where
       let e : up ≡ 2 ^ 0 + 0 = omega (arith, k .some) in
       let z : placeLen up ≡ 0 = ap placeLen e ∙ place-len 0 0 (omega arith) (omega arith) in
       sym (k .same ∙ ap (λ (n : ℕ). coverBits s o p above n (placeValue up)) z)
+
+-- ---- in a node that is there, only set bits are looked at
+module _ (w : List ℕ) (root : Prefix) (i : ℕ) (p : Prefix) (above : Cover) where
+  abbrev side : Side
+  side = record { pool = w; root = root }
+
+  module _ (h up : ℕ) (top : h < 64) (k : Climbing side (At i) p above h up) (l : 1 < up) (whole : Whole p) (fits : p .key < 2 ^ 64) (short : p .len ≤ 60) where
+    abbrev halved : (0 < up / 2) × (up / 2 < 32)
+    halved = half-some side (At i) p above h up top k l
+
+    pub climb-unset : (held : ℕ) → held ≡ dataOf w i → bit (up / 2 - 1) held ≡ false → Climbing side (At i) p above h (up / 2)
+    climb-unset held e t =
+        climb-on side (At i) p above h up top k l whole fits short (placePrefix p (up / 2)) refl Missing
+        (value-unset w root i (up / 2 - 1) (placePrefix p (up / 2)) held e t ∙ value-of w root (At i) i (up / 2) (placePrefix p (up / 2)) refl (halved .0) (halved .1)) refl
+
+    module _ (q : Prefix) (eq : q ≡ placePrefix p (up / 2)) (r : Value) (er : r ≡ valueOn w root i (up / 2 - 1) q) where
+      found : r ≡ valueIn w root (At i) (placeLen (up / 2)) (placeValue (up / 2)) q
+      found = er ∙ value-of w root (At i) i (up / 2) q refl (halved .0) (halved .1)
+
+      pub climb-outside : r ≡ Missing → Climbing side (At i) p above h (up / 2)
+      climb-outside e = climb-on side (At i) p above h up top k l whole fits short q eq r found e
+
+      pub climb-found : (v n : ℕ) → r ≡ Is v → n ≡ placeLen (up / 2) → Of (p .len + n) v ≡ coverOf side (At i) p above h
+      climb-found v n e en = climb-stop side (At i) p above h up top k l whole fits short q eq r found v n e en
+
+-- where there is no node, what stands above it is the nearest
+pub no-node : (s : Side) (p : Prefix) (above : Cover) (n v : ℕ) → above ≡ coverBits s Absent p above n v
+no-node s p above zero v = refl
+no-node s p above (suc n) v = no-node s p above n (v / 2)

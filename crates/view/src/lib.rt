@@ -143,25 +143,40 @@ pub fn child_at(words: &[u32], root: Prefix, node: Node, c: u32, q: Prefix) -> N
     }
 }
 
+// The nearest entry above place h of node i, of prefix p, or else what stands above the node. Only set bits are looked at.
+fn climbed(words: &[u32], root: Prefix, i: u32, p: Prefix, above: Cover, h: u32) -> Cover
+    requires { ⌜ Sane (now words) × (i < nodeCount (now words)) × (0 < h) × (h < 64) × Whole p × (p .len ≤ 60) ⌝ }
+    ensures { λ r. ⌜ r ≡ coverBits (record { pool = now (words .entry); root = root }) (Node.At i) p above (placeLen h) (placeValue h) ⌝ }
+{
+    let held = pool::data_bits(words, i as usize);
+    let mut up = h;
+    while 1 < up {
+        up = up / 2;
+        if bits::bit(held, up - 1) {
+            let q = bits::place_prefix(p, up);
+            match held_value(words, root, i as usize, up - 1, q) {
+                Value::Missing => {}
+                Value::Is(value) => {
+                    return Cover::Of {
+                        len: p.len + bits::place_len(up),
+                        value,
+                    };
+                }
+            }
+        }
+    }
+    above
+}
+
 // The nearest entry of a side above place h of its node of prefix p, or else what stands above the node.
 pub fn cover_at(words: &[u32], root: Prefix, node: Node, p: Prefix, above: Cover, h: u32) -> Cover
     requires { ⌜ Sane (now words) × NodeIn (now words) node × (0 < h) × (h < 64) × Whole p × (p .len ≤ 60) ⌝ }
     ensures { λ r. ⌜ r ≡ coverBits (record { pool = now (words .entry); root = root }) node p above (placeLen h) (placeValue h) ⌝ }
 {
-    let mut up = h;
-    while 1 < up {
-        up = up / 2;
-        match value_at(words, root, node, up, bits::place_prefix(p, up)) {
-            Value::Missing => {}
-            Value::Is(value) => {
-                return Cover::Of {
-                    len: p.len + bits::place_len(up),
-                    value,
-                };
-            }
-        }
+    match node {
+        Node::Absent => above,
+        Node::At(i) => climbed(words, root, i, p, above, h),
     }
-    above
 }
 
 // The first bits of a prefix.
