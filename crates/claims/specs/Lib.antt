@@ -1,0 +1,7 @@
+-- The words that the claims use.
+pub mod Terms
+-- The claims, to be read after the definitions of `defs`.
+pub mod Demand1
+-- What their proofs rest on.
+pub mod Tables
+pub mod Buffers
