@@ -2,6 +2,9 @@
 pub mod Terms
 -- The claims, to be read after the definitions of `defs`.
 pub mod Demand1
+pub mod Demand2
 -- What their proofs rest on.
 pub mod Tables
 pub mod Buffers
+pub mod Members
+pub mod Says

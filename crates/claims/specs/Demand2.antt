@@ -1,0 +1,104 @@
+-- Demand 2: the records of each list, D1 to D5 (document 01, "Views and the seven answers"). L and R are the entries of two views.
+use mathlib.Core.Path.{_≡_, refl, sym, _∙_, ap}
+use mathlib.Core.Bool.{Bool, true, false, not, _&&_, _||_}
+use mathlib.Core.List.{List, [], _∷_, map, List·Memᴰ}
+use mathlib.Core.Logic.{_↔_, _⊎_}
+use mathlib.Core.Option.{Option, none, some}
+use borrow.Author.Tests.{not-true}
+use Rattle.defs.specs.declared.Prefix.{Prefix}
+use Rattle.defs.specs.declared.Operation.{Operation}
+use Rattle.defs.specs.declared.Operation.the-variants.{Union, Intersection, Difference, CoveringDifference, CoveringUnion}
+use Rattle.defs.specs.Basics.{if_then_else_, keep}
+use Rattle.defs.specs.Entries.{Entry, view}
+use Rattle.defs.specs.Lists.{Record, valueOf, noCover, find, isIn, isLed, recordsOf}
+use Rattle.defs.specs.Outcome.{Side, entriesOf}
+use Rattle.defs.specs.Lemmas.{All, all-imp, all-both, all-map}
+use Rattle.defs.specs.PrefixLaws.{Whole}
+use Rattle.defs.specs.OrderLaws.{Ascends, among}
+use Rattle.defs.specs.EntryLaws.{view-ascends, view-real}
+use Rattle.defs.specs.ListLaws.{prefixOf, records-ascend}
+use Rattle.claims.specs.Terms.{HasRecord, HasEntry, HasLeading, tagOf, CoveringUnionSays}
+use Rattle.claims.specs.Members.{list-prefixes, members, all-member, in-either, in-left, entry-says, entry-of, entry-not, not-entry, led-not, not-led}
+use Rattle.claims.specs.Says.{find-self, find-none, tags, values, tags-both, tags-left, union-records, view-whole}
+
+-- ---- Order
+-- The records of every list ascend strictly, whatever the words and roots are.
+pub list-ascends : (op : Operation) (l r : Side) → Ascends (map prefixOf (recordsOf op (entriesOf l) (entriesOf r)))
+list-ascends op l r = records-ascend op (entriesOf l) (entriesOf r) (view-ascends (l .pool) (l .root)) (view-ascends (r .pool) (r .root))
+
+-- ---- Members, for any entries L and R
+module _ (L R : List Entry) (p : Prefix) where
+  -- D1: a record of prefix p stands in the union exactly when p is in L or in R.
+  pub union-members : HasRecord p (recordsOf Union L R) ↔ (HasEntry p L ⊎ HasEntry p R)
+  union-members = in-either L R p Union refl
+
+  -- D2: a record of prefix p stands in the intersection exactly when p is in L and in R.
+  pub intersection-members : HasRecord p (recordsOf Intersection L R) ↔ (HasEntry p L × HasEntry p R)
+  intersection-members = in-left L R p Intersection (isIn p R) (HasEntry p R) refl (entry-says p R) (entry-of p R)
+
+  -- D3: a record of prefix p stands in the difference exactly when p is in L and not in R.
+  pub difference-members : HasRecord p (recordsOf Difference L R) ↔ (HasEntry p L × (HasEntry p R → ⊥))
+  difference-members = in-left L R p Difference (not (isIn p R)) (HasEntry p R → ⊥) refl (λ h. not-entry p R (not-true _ h)) (λ h. ap not (entry-not p R h))
+
+  -- D4: a record of prefix p stands in the covering difference exactly when p is in L and no entry of R leads p.
+  pub covering-difference-members : HasRecord p (recordsOf CoveringDifference L R) ↔ (HasEntry p L × (HasLeading p R → ⊥))
+  covering-difference-members = in-left L R p CoveringDifference (not (isLed p R)) (HasLeading p R → ⊥) refl (λ h. not-led p R (not-true _ h)) (λ h. ap not (led-not p R h))
+
+  -- D5: a record of prefix p stands in the covering union exactly when p is in L or in R.
+  pub covering-union-members : HasRecord p (recordsOf CoveringUnion L R) ↔ (HasEntry p L ⊎ HasEntry p R)
+  covering-union-members = in-either L R p CoveringUnion refl
+
+  -- The same as tests that can be computed.
+  pub union-test : among p (map prefixOf (recordsOf Union L R)) ≡ (isIn p L || isIn p R)
+  union-test = ap (among p) (list-prefixes Union L R) ∙ members Union L R p
+
+  pub intersection-test : among p (map prefixOf (recordsOf Intersection L R)) ≡ (isIn p L && isIn p R)
+  intersection-test = ap (among p) (list-prefixes Intersection L R) ∙ members Intersection L R p
+
+  pub difference-test : among p (map prefixOf (recordsOf Difference L R)) ≡ (isIn p L && not (isIn p R))
+  difference-test = ap (among p) (list-prefixes Difference L R) ∙ members Difference L R p
+
+  pub covering-difference-test : among p (map prefixOf (recordsOf CoveringDifference L R)) ≡ (isIn p L && not (isLed p R))
+  covering-difference-test = ap (among p) (list-prefixes CoveringDifference L R) ∙ members CoveringDifference L R p
+
+  pub covering-union-test : among p (map prefixOf (recordsOf CoveringUnion L R)) ≡ (isIn p L || isIn p R)
+  covering-union-test = ap (among p) (list-prefixes CoveringUnion L R) ∙ members CoveringUnion L R p
+
+-- ---- What the entry of a prefix is
+-- Each entry of a view is the one entry of its prefix: it is what `find` gives.
+pub find-entry : (s : Side) (e : Entry) → List·Memᴰ e (entriesOf s) → find (e .at) (entriesOf s) ≡ some e
+find-entry s e m = all-member (find-self (entriesOf s) (view-ascends (s .pool) (s .root))) m
+
+-- Where no entry has prefix p, `find` gives none.
+pub find-nothing : (s : Side) (p : Prefix) → (HasEntry p (entriesOf s) → ⊥) → find p (entriesOf s) ≡ none
+find-nothing s p h = find-none p (entriesOf s) (entry-not p (entriesOf s) h)
+
+-- ---- What each record says
+module _ (l r : Side) where
+  -- The tag of a record is 3 where its prefix is in L and in R, 1 where it is in L alone, and 2 where it is in R alone.
+  pub list-tags : (op : Operation) → let L = entriesOf l in let R = entriesOf r in
+      All (λ x. x .tag ≡ tagOf (isIn (prefixOf x) L) (isIn (prefixOf x) R)) (recordsOf op L R)
+  list-tags op = tags (entriesOf l) (entriesOf r) (view-ascends (l .pool) (l .root)) op
+
+  -- D1 to D4: a record's value words are those of its prefix's own entries, or the mark where a side has none, and it has no cover.
+  pub list-values : (op : Operation) → (op ≡ CoveringUnion → ⊥) → let L = entriesOf l in let R = entriesOf r in
+      All (λ x. (x .left ≡ valueOf (find (prefixOf x) L)) × (x .right ≡ valueOf (find (prefixOf x) R)) × (x .cover ≡ noCover)) (recordsOf op L R)
+  list-values op n = values (entriesOf l) (entriesOf r) (view-ascends (l .pool) (l .root)) op n
+
+  -- D2: each record has tag 3.
+  pub intersection-tags : All (λ x. x .tag ≡ 3) (recordsOf Intersection (entriesOf l) (entriesOf r))
+  intersection-tags = tags-both (entriesOf l) (entriesOf r) (view-ascends (l .pool) (l .root))
+
+  -- D3: each record has tag 1.
+  pub difference-tags : All (λ x. x .tag ≡ 1) (recordsOf Difference (entriesOf l) (entriesOf r))
+  difference-tags = tags-left (keep (λ e. not (isIn (e .at) (entriesOf r))) (entriesOf l))
+
+  -- D4: each record has tag 1.
+  pub covering-difference-tags : All (λ x. x .tag ≡ 1) (recordsOf CoveringDifference (entriesOf l) (entriesOf r))
+  covering-difference-tags = tags-left (keep (λ e. not (isLed (e .at) (entriesOf r))) (entriesOf l))
+
+  -- D5: a record of both has both values and no cover; a record of one side has that side's value, and as cover the longest entry of the
+  -- other side that leads it, with its value in the other side's word, or none.
+  pub covering-union-records : All (λ x. CoveringUnionSays (entriesOf l) (entriesOf r) (prefixOf x) x) (recordsOf CoveringUnion (entriesOf l) (entriesOf r))
+  covering-union-records =
+      union-records (entriesOf l) (entriesOf r) (view-ascends (l .pool) (l .root)) (view-whole (l .pool) (l .root)) (view-ascends (r .pool) (r .root)) (view-whole (r .pool) (r .root))
