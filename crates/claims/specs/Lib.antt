@@ -3,8 +3,10 @@ pub mod Terms
 -- The claims, to be read after the definitions of `defs`.
 pub mod Demand1
 pub mod Demand2
+pub mod WrongVersions
 -- What their proofs rest on.
 pub mod Tables
 pub mod Buffers
 pub mod Members
 pub mod Says
+pub mod Shown
