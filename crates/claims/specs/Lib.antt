@@ -3,6 +3,7 @@ pub mod Terms
 -- The claims, to be read after the definitions of `defs`.
 pub mod Demand1
 pub mod Demand2
+pub mod Demand3
 pub mod WrongVersions
 -- What their proofs rest on.
 pub mod Tables
@@ -10,3 +11,4 @@ pub mod Buffers
 pub mod Members
 pub mod Says
 pub mod Shown
+pub mod Equal
