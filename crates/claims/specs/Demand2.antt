@@ -4,6 +4,7 @@ use mathlib.Core.Bool.{Bool, true, false, not, _&&_, _||_}
 use mathlib.Core.List.{List, [], _∷_, map, List·Memᴰ}
 use mathlib.Core.Logic.{_↔_, _⊎_}
 use mathlib.Core.Option.{Option, none, some}
+use Prim.Native.Nat.{ℕ, _*_, _≤_, _<_}
 use borrow.Author.Tests.{not-true}
 use Rattle.defs.specs.declared.Prefix.{Prefix}
 use Rattle.defs.specs.declared.Operation.{Operation}
@@ -17,9 +18,10 @@ use Rattle.defs.specs.PrefixLaws.{Whole}
 use Rattle.defs.specs.OrderLaws.{Ascends, among}
 use Rattle.defs.specs.EntryLaws.{view-ascends, view-real}
 use Rattle.defs.specs.ListLaws.{prefixOf, records-ascend}
-use Rattle.claims.specs.Terms.{HasRecord, HasEntry, HasLeading, tagOf, CoveringUnionSays}
+use Rattle.claims.specs.Terms.{WellFormed, HasRecord, HasEntry, HasLeading, tagOf, CoveringUnionSays}
 use Rattle.claims.specs.Members.{list-prefixes, members, all-member, in-either, in-left, entry-says, entry-of, entry-not, not-entry, led-not, not-led}
 use Rattle.claims.specs.Says.{find-self, find-none, tags, values, tags-both, tags-left, union-records, view-whole}
+use Rattle.claims.specs.Marks.{values-low, lengths-low, plain-marks, union-marks, union-covers}
 
 -- ---- Order
 -- The records of every list ascend strictly, whatever the words and roots are.
@@ -102,3 +104,30 @@ module _ (l r : Side) where
   pub covering-union-records : All (λ x. CoveringUnionSays (entriesOf l) (entriesOf r) (prefixOf x) x) (recordsOf CoveringUnion (entriesOf l) (entriesOf r))
   covering-union-records =
       union-records (entriesOf l) (entriesOf r) (view-ascends (l .pool) (l .root)) (view-whole (l .pool) (l .root)) (view-ascends (r .pool) (r .root)) (view-whole (r .pool) (r .root))
+
+-- ---- The marks are never mistaken
+-- In a well-formed pool every value of a view is below 31 * 65,536, so none is the mark 4294967295.
+pub values-below-mark : (width : ℕ) (s : Side) → WellFormed width (s .pool) → All (λ e. e .value < 31 * 65536) (entriesOf s)
+values-below-mark width s h = values-low width (s .pool) (s .root) h
+
+-- In any pool no entry of a view is longer than 64, so no length is the mark 255.
+pub lengths-below-mark : (s : Side) → All (λ e. e .at .len ≤ 64) (entriesOf s)
+lengths-below-mark s = lengths-low (s .pool) (s .root)
+
+module _ (width : ℕ) (l r : Side) (well-l : WellFormed width (l .pool)) (well-r : WellFormed width (r .pool)) where
+  -- D1 to D4: a value word is the mark exactly when that side has no entry of the record's prefix.
+  pub list-marks : (op : Operation) → (op ≡ CoveringUnion → ⊥) → let L = entriesOf l in let R = entriesOf r in
+      All (λ x. ((x .left ≡ 4294967295) ↔ (HasEntry (prefixOf x) L → ⊥)) × ((x .right ≡ 4294967295) ↔ (HasEntry (prefixOf x) R → ⊥))) (recordsOf op L R)
+  list-marks op n = plain-marks (entriesOf l) (entriesOf r) (view-ascends (l .pool) (l .root)) (values-below-mark width l well-l) (values-below-mark width r well-r) op n
+
+  -- D5: a value word is the mark exactly when no entry of that side leads the record's prefix, itself included.
+  pub covering-union-marks : let L = entriesOf l in let R = entriesOf r in
+      All (λ x. ((x .left ≡ 4294967295) ↔ (HasLeading (prefixOf x) L → ⊥)) × ((x .right ≡ 4294967295) ↔ (HasLeading (prefixOf x) R → ⊥))) (recordsOf CoveringUnion L R)
+  covering-union-marks = union-marks (entriesOf l) (entriesOf r) (view-ascends (l .pool) (l .root)) (values-below-mark width l well-l) (values-below-mark width r well-r)
+
+-- D5, for any words: the cover word of a record of both is 255; that of a record of one side is 255 exactly when no entry of the other side leads it.
+pub covering-union-cover-marks : (l r : Side) → let L = entriesOf l in let R = entriesOf r in
+    All (λ x. (x .tag ≡ 3 → x .cover ≡ 255)
+    × (x .tag ≡ 1 → (x .cover ≡ 255) ↔ (HasLeading (prefixOf x) R → ⊥))
+    × (x .tag ≡ 2 → (x .cover ≡ 255) ↔ (HasLeading (prefixOf x) L → ⊥))) (recordsOf CoveringUnion L R)
+covering-union-cover-marks l r = union-covers (entriesOf l) (entriesOf r) (view-ascends (l .pool) (l .root)) (lengths-below-mark l) (lengths-below-mark r)

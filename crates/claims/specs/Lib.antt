@@ -12,3 +12,4 @@ pub mod Members
 pub mod Says
 pub mod Shown
 pub mod Equal
+pub mod Marks
