@@ -5,6 +5,7 @@ use mathlib.Core.List.{List, [], _∷_, map, List·Memᴰ}
 use mathlib.Core.Logic.{_↔_, _⊎_}
 use mathlib.Core.Option.{Option, none, some}
 use Prim.Native.Nat.{ℕ, _*_, _≤_, _<_}
+use lib.Dec.{eqb}
 use borrow.Author.Tests.{not-true}
 use Rattle.defs.specs.declared.Prefix.{Prefix}
 use Rattle.defs.specs.declared.Operation.{Operation}
@@ -18,9 +19,10 @@ use Rattle.defs.specs.PrefixLaws.{Whole}
 use Rattle.defs.specs.OrderLaws.{Ascends, among}
 use Rattle.defs.specs.EntryLaws.{view-ascends, view-real}
 use Rattle.defs.specs.ListLaws.{prefixOf, records-ascend}
-use Rattle.claims.specs.Terms.{WellFormed, HasRecord, HasEntry, HasLeading, tagOf, CoveringUnionSays}
+use Rattle.claims.specs.Terms.{WellFormed, HasRecord, HasEntry, HasLeading, tagOf, withoutCover, CoveringUnionSays}
 use Rattle.claims.specs.Members.{list-prefixes, members, all-member, in-either, in-left, entry-says, entry-of, entry-not, not-entry, led-not, not-led}
 use Rattle.claims.specs.Says.{find-self, find-none, tags, values, tags-both, tags-left, union-records, view-whole}
+use Rattle.claims.specs.Filters.{union-of, intersection-of, difference-of, covering-difference-of}
 use Rattle.claims.specs.Marks.{values-low, lengths-low, plain-marks, union-marks, union-covers}
 
 -- ---- Order
@@ -131,3 +133,23 @@ pub covering-union-cover-marks : (l r : Side) → let L = entriesOf l in let R =
     × (x .tag ≡ 1 → (x .cover ≡ 255) ↔ (HasLeading (prefixOf x) R → ⊥))
     × (x .tag ≡ 2 → (x .cover ≡ 255) ↔ (HasLeading (prefixOf x) L → ⊥))) (recordsOf CoveringUnion L R)
 covering-union-cover-marks l r = union-covers (entriesOf l) (entriesOf r) (view-ascends (l .pool) (l .root)) (lengths-below-mark l) (lengths-below-mark r)
+
+-- ---- D1 to D4 are maps and filters of D5's records
+module _ (l r : Side) where
+  -- D1 is D5 with the covers taken off.
+  pub union-from : recordsOf Union (entriesOf l) (entriesOf r) ≡ map withoutCover (recordsOf CoveringUnion (entriesOf l) (entriesOf r))
+  union-from = union-of (entriesOf l) (entriesOf r)
+
+  -- D2 is D5's records of tag 3.
+  pub intersection-from : recordsOf Intersection (entriesOf l) (entriesOf r) ≡ keep (λ x. eqb (x .tag) 3) (recordsOf CoveringUnion (entriesOf l) (entriesOf r))
+  intersection-from = intersection-of (entriesOf l) (entriesOf r) (view-ascends (l .pool) (l .root)) (view-ascends (r .pool) (r .root))
+
+  -- D3 is D5's records of tag 1, with the covers taken off.
+  pub difference-from : recordsOf Difference (entriesOf l) (entriesOf r) ≡ map withoutCover (keep (λ x. eqb (x .tag) 1) (recordsOf CoveringUnion (entriesOf l) (entriesOf r)))
+  difference-from = difference-of (entriesOf l) (entriesOf r) (view-ascends (l .pool) (l .root)) (view-ascends (r .pool) (r .root))
+
+  -- D4 is D5's records of tag 1 that have no cover.
+  pub covering-difference-from : recordsOf CoveringDifference (entriesOf l) (entriesOf r)
+      ≡ keep (λ x. eqb (x .tag) 1 && eqb (x .cover) 255) (recordsOf CoveringUnion (entriesOf l) (entriesOf r))
+  covering-difference-from =
+      covering-difference-of (entriesOf l) (entriesOf r) (view-ascends (l .pool) (l .root)) (view-ascends (r .pool) (r .root)) (lengths-below-mark r)

@@ -13,3 +13,4 @@ pub mod Says
 pub mod Shown
 pub mod Equal
 pub mod Marks
+pub mod Filters

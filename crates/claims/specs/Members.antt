@@ -36,9 +36,9 @@ listPrefixes Difference L R = keep (λ p. not (isIn p R)) (prefixes L)
 listPrefixes CoveringDifference L R = keep (λ p. not (isLed p R)) (prefixes L)
 listPrefixes CoveringUnion L R = allOf L R
 
-map-id : (ps : List Prefix) → map (λ (p : Prefix). p) ps ≡ ps
+pub map-id : {A : Type 0} (xs : List A) → map (λ (x : A). x) xs ≡ xs
 map-id [] = refl
-map-id (p ∷ ps) = ap (p ∷_) (map-id ps)
+map-id (x ∷ xs) = ap (x ∷_) (map-id xs)
 
 -- records made one for each prefix of a list
 of-prefixes : (f : Prefix → Record) → ((p : Prefix) → prefixOf (f p) ≡ p) → (ps : List Prefix) → map prefixOf (map f ps) ≡ ps

@@ -29,7 +29,7 @@ pub has-find : (p : Prefix) (es : List Entry) → has (find p es) ≡ isIn p es
 has-find p [] = refl
 has-find p (e ∷ es) = split (same p (e .at)) (λ t. rw t) (λ t. rw t (has-find p es))
 
-has-none : (o : Option Entry) → has o ≡ false → o ≡ none
+pub has-none : (o : Option Entry) → has o ≡ false → o ≡ none
 has-none none h = refl
 has-none (some e) h = not-both refl h
 
@@ -127,7 +127,7 @@ says-values L R CoveringUnion n p = absurd (n refl)
 
 -- ---- the covering union
 -- each of a list is one of it
-own : (ps : List Prefix) → All (λ p. among p ps ≡ true) ps
+pub own : (ps : List Prefix) → All (λ p. among p ps ≡ true) ps
 own [] = nil
 own (p ∷ ps) = more {x = p} (rw (same-self p)) (all-imp (λ q h. split (same q p) (λ t. rw t) (λ t. rw t h)) (own ps))
 

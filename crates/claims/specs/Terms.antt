@@ -5,14 +5,16 @@ use mathlib.Core.List.{List, List·Memᴰ}
 use mathlib.Core.Logic.{_⊎_}
 use mathlib.Core.Option.{Option, none, some}
 use Prim.Native.Nat.{ℕ, _<_}
+use lib.Dec.{eqb}
 use lib.ListN.{length}
 use Rattle.defs.specs.declared.Prefix.{Prefix}
 use Rattle.defs.specs.declared.Answer.{Answer}
 use Rattle.defs.specs.declared.Operation.{Operation}
+use Rattle.defs.specs.Basics.{if_then_else_}
 use Rattle.defs.specs.Prefix.{leads}
 use Rattle.defs.specs.Entries.{Entry}
 use Rattle.defs.specs.Check.{faultOf}
-use Rattle.defs.specs.Lists.{Record, recordOf, find, recordsOf}
+use Rattle.defs.specs.Lists.{Record, missing, noCover, recordOf, find, recordsOf}
 use Rattle.defs.specs.Tidy.{nodesOf}
 use Rattle.defs.specs.Outcome.{Side, entriesOf}
 use Rattle.defs.specs.ListLaws.{prefixOf, IsLongest}
@@ -76,3 +78,14 @@ pub data CoveringUnionSays (L R : List Entry) (p : Prefix) : Record → Type 0 w
   left : {x : Entry} {c : Option Entry} → find p L ≡ some x → find p R ≡ none → IsLongest p R c → CoveringUnionSays L R p (recordOf p 1 (some x) c c)
   -- p is in R alone: tag 2, its value, and as cover the longest entry of L that leads p, with its value in the left value word
   right : {y : Entry} {c : Option Entry} → find p L ≡ none → find p R ≡ some y → IsLongest p L c → CoveringUnionSays L R p (recordOf p 2 c (some y) c)
+
+-- a record without its cover: in a record of one side, the other side's value word is the mark again
+abbrev pub withoutCover : Record → Record
+withoutCover x = record {
+  key = x .key;
+  len = x .len;
+  tag = x .tag;
+  left = if eqb (x .tag) 2 then missing else x .left;
+  right = if eqb (x .tag) 1 then missing else x .right;
+  cover = noCover;
+}
