@@ -8,7 +8,7 @@ use lib.ListN.{length, getD, drop, length-append, length-drop}
 use lib.Seq.{getD-append-add, getD-drop}
 use borrow.Author.Tests.{eqb-true, eq-eqb, ne-eqb}
 use Rattle.defs.specs.declared.Answer.{Answer}
-use Rattle.defs.specs.Basics.{if_then_else_, each}
+use Rattle.defs.specs.Basics.{each}
 use Rattle.defs.specs.Lists.{Record, recordWords, wordsOf}
 use Rattle.defs.specs.Outcome.{written}
 use Rattle.defs.specs.Lemmas.{split}

@@ -12,7 +12,7 @@ use Rattle.defs.specs.Basics.{if_then_else_, any, each}
 use Rattle.defs.specs.Pool.{nodeCount}
 use Rattle.defs.specs.Check.{faultOf}
 use Rattle.defs.specs.Lists.{recordsOf, wordsOf, sameKeys}
-use Rattle.defs.specs.Tidy.{nodesOf, tidyPool, tidyValues}
+use Rattle.defs.specs.Tidy.{tidyPool, tidyValues}
 use Rattle.defs.specs.Outcome.{Side, Listed, Tidied, answer, entriesOf, sideRows, listRows, listOutcome, equalOutcome, tidyRows, tidyOutcome, checkRows, checkOutcome}
 use Rattle.tidied.specs.Demand3.{tidy-words, tidy-entries}
 use Rattle.claims.specs.Terms.{GoodWidth, BadWidth, Faulty, WellFormed, Exactly, recordCount, tidyNodes, tidyEntries}

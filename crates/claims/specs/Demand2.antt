@@ -1,29 +1,40 @@
 -- Demand 2: the records of each list, D1 to D5 (document 01, "Views and the seven answers"). L and R are the entries of two views.
-use mathlib.Core.Path.{_≡_, refl, sym, _∙_, ap}
-use mathlib.Core.Bool.{Bool, true, false, not, _&&_, _||_}
-use mathlib.Core.List.{List, [], _∷_, map, List·Memᴰ}
+use mathlib.Core.Path.{_≡_, refl, _∙_, ap}
+use mathlib.Core.Bool.{true, not, _&&_, _||_}
+use mathlib.Core.List.{List, map, List·Memᴰ}
 use mathlib.Core.Logic.{_↔_, _⊎_}
-use mathlib.Core.Option.{Option, none, some}
+use mathlib.Core.Option.{none, some}
 use Prim.Native.Nat.{ℕ, _*_, _≤_, _<_}
 use lib.Dec.{eqb}
 use borrow.Author.Tests.{not-true}
 use Rattle.defs.specs.declared.Prefix.{Prefix}
 use Rattle.defs.specs.declared.Operation.{Operation}
 use Rattle.defs.specs.declared.Operation.the-variants.{Union, Intersection, Difference, CoveringDifference, CoveringUnion}
-use Rattle.defs.specs.Basics.{if_then_else_, keep}
-use Rattle.defs.specs.Entries.{Entry, view}
+use Rattle.defs.specs.Basics.{keep}
+use Rattle.defs.specs.Prefix.{first, leads}
+use Rattle.defs.specs.Entries.{Entry, allEntries, view}
 use Rattle.defs.specs.Lists.{Record, valueOf, noCover, find, isIn, isLed, recordsOf}
 use Rattle.defs.specs.Outcome.{Side, entriesOf}
-use Rattle.defs.specs.Lemmas.{All, all-imp, all-both, all-map}
-use Rattle.defs.specs.PrefixLaws.{Whole}
+use Rattle.defs.specs.Lemmas.{All}
 use Rattle.defs.specs.OrderLaws.{Ascends, among}
-use Rattle.defs.specs.EntryLaws.{view-ascends, view-real}
+use Rattle.defs.specs.EntryLaws.{view-ascends}
 use Rattle.defs.specs.ListLaws.{prefixOf, records-ascend}
-use Rattle.claims.specs.Terms.{WellFormed, HasRecord, HasEntry, HasLeading, tagOf, withoutCover, CoveringUnionSays}
-use Rattle.claims.specs.Members.{list-prefixes, members, all-member, in-either, in-left, entry-says, entry-of, entry-not, not-entry, led-not, not-led}
-use Rattle.claims.specs.Says.{find-self, find-none, tags, values, tags-both, tags-left, union-records, view-whole}
-use Rattle.claims.specs.Filters.{union-of, intersection-of, difference-of, covering-difference-of}
+use Rattle.tidied.specs.ListFacts.{keep-ext}
+use Rattle.claims.specs.Terms.{WellFormed, HasRecord, HasEntry, HasLeading, says, tagOf, withoutCover, CoveringUnionSays}
+use Rattle.claims.specs.Members.{kept-members, leads-alike, list-prefixes, members, all-member, in-either, in-left, entry-says, entry-of, entry-not, not-entry, led-not, not-led}
+use Rattle.claims.specs.Says.{find-self, find-none, records-say, tags, values, tags-both, tags-left, union-records, view-whole}
+use Rattle.claims.specs.Filters.{only-records, union-of, intersection-of, difference-of, covering-difference-of}
 use Rattle.claims.specs.Marks.{values-low, lengths-low, plain-marks, union-marks, union-covers}
+
+-- ---- Views
+-- A view holds exactly the entries of its pool that its root leads.
+pub view-members : (s : Side) (e : Entry) → List·Memᴰ e (entriesOf s) ↔ (List·Memᴰ e (allEntries (s .pool)) × (leads (s .root) (e .at) ≡ true))
+view-members s e = kept-members (λ x. leads (s .root) (x .at)) e (allEntries (s .pool))
+
+-- Bits of a root past its length are ignored.
+pub root-bits : (w : List ℕ) (root root′ : Prefix) → root .len ≡ root′ .len → first (root .len) (root .key) ≡ first (root .len) (root′ .key)
+    → view w root ≡ view w root′
+root-bits w root root′ n k = keep-ext (λ e. leads root (e .at)) (λ e. leads root′ (e .at)) (λ e. leads-alike root root′ (e .at) n k) (allEntries w)
 
 -- ---- Order
 -- The records of every list ascend strictly, whatever the words and roots are.
@@ -52,19 +63,24 @@ module _ (L R : List Entry) (p : Prefix) where
   pub covering-union-members : HasRecord p (recordsOf CoveringUnion L R) ↔ (HasEntry p L ⊎ HasEntry p R)
   covering-union-members = in-either L R p CoveringUnion refl
 
-  -- The same as tests that can be computed.
+  -- ---- The same as tests that can be computed.
+  -- D1: the test for p in the union is that for L or that for R.
   pub union-test : among p (map prefixOf (recordsOf Union L R)) ≡ (isIn p L || isIn p R)
   union-test = ap (among p) (list-prefixes Union L R) ∙ members Union L R p
 
+  -- D2: the test for p in the intersection is that for L and that for R.
   pub intersection-test : among p (map prefixOf (recordsOf Intersection L R)) ≡ (isIn p L && isIn p R)
   intersection-test = ap (among p) (list-prefixes Intersection L R) ∙ members Intersection L R p
 
+  -- D3: the test for p in the difference is that for L and not that for R.
   pub difference-test : among p (map prefixOf (recordsOf Difference L R)) ≡ (isIn p L && not (isIn p R))
   difference-test = ap (among p) (list-prefixes Difference L R) ∙ members Difference L R p
 
+  -- D4: the test for p in the covering difference is that for L and not that for an entry of R that leads p.
   pub covering-difference-test : among p (map prefixOf (recordsOf CoveringDifference L R)) ≡ (isIn p L && not (isLed p R))
   covering-difference-test = ap (among p) (list-prefixes CoveringDifference L R) ∙ members CoveringDifference L R p
 
+  -- D5: the test for p in the covering union is that for L or that for R.
   pub covering-union-test : among p (map prefixOf (recordsOf CoveringUnion L R)) ≡ (isIn p L || isIn p R)
   covering-union-test = ap (among p) (list-prefixes CoveringUnion L R) ∙ members CoveringUnion L R p
 
@@ -79,6 +95,15 @@ find-nothing s p h = find-none p (entriesOf s) (entry-not p (entriesOf s) h)
 
 -- ---- What each record says
 module _ (l r : Side) where
+  -- Each record is the one that its list has for its prefix.
+  pub list-records : (op : Operation) → let L = entriesOf l in let R = entriesOf r in All (λ x. x ≡ says op L R (prefixOf x)) (recordsOf op L R)
+  list-records op = records-say (entriesOf l) (entriesOf r) (view-ascends (l .pool) (l .root)) op
+
+  -- No other strictly ascending list of such records has the same prefixes.
+  pub list-unique : (op : Operation) (xs : List Record) → let L = entriesOf l in let R = entriesOf r in Ascends (map prefixOf xs)
+      → All (λ x. x ≡ says op L R (prefixOf x)) xs → ((p : Prefix) → HasRecord p xs ↔ HasRecord p (recordsOf op L R)) → xs ≡ recordsOf op L R
+  list-unique op xs a h m = only-records (says op (entriesOf l) (entriesOf r)) xs (recordsOf op (entriesOf l) (entriesOf r)) h (list-records op) a (list-ascends op l r) m
+
   -- The tag of a record is 3 where its prefix is in L and in R, 1 where it is in L alone, and 2 where it is in R alone.
   pub list-tags : (op : Operation) → let L = entriesOf l in let R = entriesOf r in
       All (λ x. x .tag ≡ tagOf (isIn (prefixOf x) L) (isIn (prefixOf x) R)) (recordsOf op L R)
@@ -101,8 +126,7 @@ module _ (l r : Side) where
   pub covering-difference-tags : All (λ x. x .tag ≡ 1) (recordsOf CoveringDifference (entriesOf l) (entriesOf r))
   covering-difference-tags = tags-left (keep (λ e. not (isLed (e .at) (entriesOf r))) (entriesOf l))
 
-  -- D5: a record of both has both values and no cover; a record of one side has that side's value, and as cover the longest entry of the
-  -- other side that leads it, with its value in the other side's word, or none.
+  -- D5: a record of both has both values and no cover; a record of one side has as cover the longest entry of the other side that leads it, or none.
   pub covering-union-records : All (λ x. CoveringUnionSays (entriesOf l) (entriesOf r) (prefixOf x) x) (recordsOf CoveringUnion (entriesOf l) (entriesOf r))
   covering-union-records =
       union-records (entriesOf l) (entriesOf r) (view-ascends (l .pool) (l .root)) (view-whole (l .pool) (l .root)) (view-ascends (r .pool) (r .root)) (view-whole (r .pool) (r .root))

@@ -1,9 +1,9 @@
 -- Demand 3: what tidying promises, D7, and how key equality, D6, goes with it (document 01, "Views and the seven answers").
-use mathlib.Core.Path.{_≡_, refl, sym, _∙_, ap}
-use mathlib.Core.Bool.{true, false}
+use mathlib.Core.Path.{_≡_, sym, _∙_, ap}
+use mathlib.Core.Bool.{true}
 use mathlib.Core.List.{List, [], _∷_, _++_, map}
 use mathlib.Core.Logic.{_↔_}
-use Prim.Native.Nat.{ℕ, _*_, _/_, _^_, _≤_, _<_}
+use Prim.Native.Nat.{ℕ, _*_, _/_, _≤_, _<_}
 use native.Mathlib.Omega.{arith}
 use lib.ListN.{length, getD, drop}
 use Rattle.defs.specs.declared.Prefix.{Prefix}
@@ -11,8 +11,7 @@ use Rattle.defs.specs.declared.Answer.{Answer}
 use Rattle.defs.specs.Basics.{if_then_else_, upTo}
 use Rattle.defs.specs.Prefix.{top}
 use Rattle.defs.specs.Pool.{nodeCount}
-use Rattle.defs.specs.Entries.{Entry, entriesAt, allEntries, view, prefixes}
-use Rattle.defs.specs.Check.{faultOf}
+use Rattle.defs.specs.Entries.{Entry, allEntries, view, prefixes}
 use Rattle.defs.specs.Lists.{sameKeys}
 use Rattle.defs.specs.Tidy.{isUnder, nodesOf, tidyPool, tidyValues}
 use Rattle.defs.specs.Outcome.{Side, answer, entriesOf, equalOutcome, tidyOutcome}
@@ -99,6 +98,7 @@ empty-view s e = (ap tidyPool e ∙ empty-pool, ap tidyValues e ∙ empty-values
 -- ---- The calls
 module _ (width : ℕ) (l r : Side) (good : GoodWidth width) (well-l : WellFormed width (l .pool)) (well-r : WellFormed width (r .pool))
     (root-l : l .root .len ≤ width) (root-r : r .root .len ≤ width) where
+  -- Then the answer is yes or no.
   done : equalOutcome width l r ≡ answer 0 (if sameKeys (entriesOf l) (entriesOf r) then 1 else 0) 0
   done = equal-0 width l r .whenever (good, (well-l, (well-r, (root-l, root-r))))
 

@@ -13,7 +13,7 @@ use Rattle.defs.specs.Lists.{isIn, sameKeys}
 use Rattle.defs.specs.Tidy.{dataPrefixes, childPrefixes, nodesOf, tidyPool, tidyValues}
 use Rattle.defs.specs.Outcome.{answer}
 use Rattle.defs.specs.Lemmas.{split, not-both, is-false}
-use Rattle.defs.specs.OrderLaws.{Ascends, among, ascends-unique}
+use Rattle.defs.specs.OrderLaws.{Ascends, ascends-unique}
 use Rattle.tidied.specs.Same.{here-same, keys-prefixes, prefixes-keys}
 use Rattle.claims.specs.Terms.{HasEntry}
 use Rattle.claims.specs.Members.{among-prefixes, entry-says, entry-of}

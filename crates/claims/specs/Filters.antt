@@ -1,7 +1,8 @@
 -- D1 to D4 as maps and filters of D5's records.
 use mathlib.Core.Path.{_≡_, refl, sym, _∙_, ap}
 use mathlib.Core.Bool.{Bool, true, false, not, _&&_, _||_, and-true}
-use mathlib.Core.List.{List, [], _∷_, map}
+use mathlib.Core.List.{List, _∷_, map}
+use mathlib.Core.Logic.{_↔_}
 use mathlib.Core.Option.{Option, none, some}
 use Prim.Native.Nat.{ℕ}
 use lib.Dec.{eqb}
@@ -9,15 +10,15 @@ use borrow.Author.Tests.{not-true}
 use Rattle.defs.specs.declared.Prefix.{Prefix}
 use Rattle.defs.specs.declared.Operation.{Operation}
 use Rattle.defs.specs.declared.Operation.the-variants.{Union, Intersection, Difference, CoveringDifference, CoveringUnion}
-use Rattle.defs.specs.Basics.{if_then_else_, keep}
+use Rattle.defs.specs.Basics.{keep}
 use Rattle.defs.specs.Entries.{Entry, prefixes}
 use Rattle.defs.specs.Lists.{Record, noCover, plain, covered, find, isIn, isLed, longest, allOf, recordsOf}
-use Rattle.defs.specs.Lemmas.{All, nil, more, split, not-both, and-left, and-right, all-imp, map-map, map-ext, map-on, keep-map}
+use Rattle.defs.specs.Lemmas.{All, nil, more, split, not-both, is-false, and-left, and-right, all-imp, map-map, map-ext, map-on, keep-map}
 use Rattle.defs.specs.OrderLaws.{Ascends, among, merge-ascends, ascends-keep, ascends-unique, among-keep}
 use Rattle.defs.specs.ListLaws.{prefixOf, records-ascend}
-use Rattle.claims.specs.Terms.{tagOf, withoutCover}
-use Rattle.claims.specs.Members.{map-id, listPrefixes, list-prefixes, belongs, members}
-use Rattle.claims.specs.Says.{has, has-find, has-none, find-none, led-in, own, says, says-tag, records-say}
+use Rattle.claims.specs.Terms.{HasRecord, says, tagOf, withoutCover}
+use Rattle.claims.specs.Members.{record-says, record-of, map-id, listPrefixes, list-prefixes, belongs, members}
+use Rattle.claims.specs.Says.{has, has-find, has-none, find-none, led-in, own, says-tag, records-say}
 use Rattle.claims.specs.Marks.{LowLength, Holds, has-cover, cover-mark, longest-holds}
 
 plain-covered : (p : Prefix) (l r c d : Option Entry) → withoutCover (covered p l r c d) ≡ plain p l r
@@ -40,6 +41,17 @@ left-covered p (some l) c h = refl
 as-map : (s : Prefix → Record) {rs : List Record} → All (λ r. r ≡ s (prefixOf r)) rs → rs ≡ map s (map prefixOf rs)
 as-map s nil = refl
 as-map s (more {x = r} {xs = rs} h k) = ap (_∷ rs) h ∙ ap (s (prefixOf r) ∷_) (as-map s k)
+
+-- ascending records with the prefixes of others, each what s says of its prefix, are those others
+pub only-records : (s : Prefix → Record) (xs ys : List Record) → All (λ x. x ≡ s (prefixOf x)) xs → All (λ y. y ≡ s (prefixOf y)) ys
+    → Ascends (map prefixOf xs) → Ascends (map prefixOf ys) → ((p : Prefix) → HasRecord p xs ↔ HasRecord p ys) → xs ≡ ys
+only-records s xs ys h k a b m =
+    as-map s h ∙ ap (map s) (ascends-unique (map prefixOf xs) (map prefixOf ys) a b alike) ∙ sym (as-map s k)
+  where
+    alike : (p : Prefix) → among p (map prefixOf xs) ≡ among p (map prefixOf ys)
+    alike p =
+        split (among p (map prefixOf xs)) (λ t. t ∙ sym (record-of p ys (m p .0 (record-says p xs t))))
+        (λ t. t ∙ sym (is-false _ (λ f. not-both (record-of p xs (m p .1 (record-says p ys f))) t)))
 
 -- D1 is D5 with the covers taken off
 pub union-of : (L R : List Entry) → recordsOf Union L R ≡ map withoutCover (recordsOf CoveringUnion L R)

@@ -1,17 +1,17 @@
 -- The prefixes of each list's records, and which they are.
 use mathlib.Core.Path.{_≡_, refl, sym, _∙_, ap, subst}
 use mathlib.Core.Bool.{Bool, true, false, not, _&&_, _||_, and-comm}
-use mathlib.Core.List.{List, [], _∷_, map, List·Memᴰ, List·Memᴰ·head, List·Memᴰ·tail}
-use mathlib.Core.Logic.{_↔_, _⊎_, inl, inr}
+use mathlib.Core.List.{List, [], _∷_, map, List·Memᴰ, List·Memᴰ·head, List·Memᴰ·tail, List·Memᴰ·cases-cons}
+use mathlib.Core.Logic.{_↔_, _⊎_, inl, inr, ⊎-elim}
 use mathlib.Core.Option.{Option, none, some}
 use Rattle.defs.specs.declared.Prefix.{Prefix}
 use Rattle.defs.specs.declared.Operation.{Operation}
 use Rattle.defs.specs.declared.Operation.the-variants.{Union, Intersection, Difference, CoveringDifference, CoveringUnion}
-use Rattle.defs.specs.Basics.{if_then_else_, keep, any}
-use Rattle.defs.specs.Prefix.{leads, same}
+use Rattle.defs.specs.Basics.{keep, any}
+use Rattle.defs.specs.Prefix.{first, leads, same}
 use Rattle.defs.specs.Entries.{Entry, prefixes}
 use Rattle.defs.specs.Lists.{Record, plain, covered, leftOnly, find, isIn, isLed, longest, allOf, recordsOf}
-use Rattle.defs.specs.Lemmas.{All, nil, more, split, not-both, is-false, and-left, and-right, map-map, map-ext, keep-map}
+use Rattle.defs.specs.Lemmas.{All, more, split, not-both, is-false, and-left, and-right, all-kept, map-map, map-ext, keep-map}
 use Rattle.defs.specs.PrefixLaws.{same-self, same-says}
 use Rattle.defs.specs.OrderLaws.{among, among-merge, among-keep}
 use Rattle.defs.specs.ListLaws.{prefixOf}
@@ -107,6 +107,26 @@ module _ {A : Type 0} where
   pub any-of : (f : A → Bool) {x : A} {xs : List A} → List·Memᴰ x xs → f x ≡ true → any f xs ≡ true
   any-of f (List·Memᴰ·head e) h = rw (ap f (sym e) ∙ h)
   any-of f (List·Memᴰ·tail {x = y} m) h = split (f y) (λ t. rw t) (λ t. rw t (any-of f m h))
+
+  kept-inside : (f : A → Bool) (x : A) (xs : List A) → List·Memᴰ x (keep f xs) → List·Memᴰ x xs
+  kept-inside f x [] m = m
+  kept-inside f x (y ∷ xs) m =
+      split (f y)
+      (λ t. ⊎-elim (λ e. List·Memᴰ·head e) (λ k. List·Memᴰ·tail (kept-inside f x xs k)) (List·Memᴰ·cases-cons (rw t at m)))
+      (λ t. List·Memᴰ·tail (kept-inside f x xs (rw t at m)))
+
+  kept-of : (f : A → Bool) {x : A} {xs : List A} → List·Memᴰ x xs → f x ≡ true → List·Memᴰ x (keep f xs)
+  kept-of f (List·Memᴰ·head e) h = rw (ap f (sym e) ∙ h, keep) (List·Memᴰ·head e)
+  kept-of f (List·Memᴰ·tail {x = y} m) h = split (f y) (λ t. rw (t, keep) (List·Memᴰ·tail (kept-of f m h))) (λ t. rw (t, keep) (kept-of f m h))
+
+  -- those kept are the members that pass the test
+  pub kept-members : (f : A → Bool) (x : A) (xs : List A) → List·Memᴰ x (keep f xs) ↔ (List·Memᴰ x xs × (f x ≡ true))
+  kept-members f x xs = (λ m. (kept-inside f x xs m, all-member (all-kept f xs) m), λ h. kept-of f (h .0) (h .1))
+
+-- two roots that agree in their lengths and first bits lead the same
+pub leads-alike : (a b p : Prefix) → a .len ≡ b .len → first (a .len) (a .key) ≡ first (a .len) (b .key) → leads a p ≡ leads b p
+unfolding leads
+leads-alike a b p n k = rw (k, n)
 
 -- the tests of the definitions, said of members
 module _ (p : Prefix) where

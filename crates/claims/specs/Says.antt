@@ -8,16 +8,16 @@ use borrow.Author.Tests.{not-true}
 use Rattle.defs.specs.declared.Prefix.{Prefix}
 use Rattle.defs.specs.declared.Operation.{Operation}
 use Rattle.defs.specs.declared.Operation.the-variants.{Union, Intersection, Difference, CoveringDifference, CoveringUnion}
-use Rattle.defs.specs.Basics.{if_then_else_, keep, any}
-use Rattle.defs.specs.Prefix.{leads, before, same}
+use Rattle.defs.specs.Basics.{keep}
+use Rattle.defs.specs.Prefix.{leads, same}
 use Rattle.defs.specs.Entries.{Entry, prefixes, view}
 use Rattle.defs.specs.Lists.{Record, valueOf, noCover, plain, covered, leftOnly, find, isIn, isLed, longest, allOf, recordsOf}
 use Rattle.defs.specs.Lemmas.{All, nil, more, split, not-both, is-false, and-left, and-right, all-imp, all-both, all-true, all-map, all-unmap, all-keep, all-kept}
 use Rattle.defs.specs.PrefixLaws.{Whole, same-self, same-says, before-irrefl, leads-self}
-use Rattle.defs.specs.OrderLaws.{Ascends, end, then-after, among}
+use Rattle.defs.specs.OrderLaws.{Ascends, then-after, among}
 use Rattle.defs.specs.EntryLaws.{view-real}
 use Rattle.defs.specs.ListLaws.{prefixOf, IsLongest, cover-is-longest}
-use Rattle.claims.specs.Terms.{tagOf, CoveringUnionSays, both, left, right}
+use Rattle.claims.specs.Terms.{says, tagOf, CoveringUnionSays, both, left, right}
 use Rattle.claims.specs.Members.{prefix-plain, prefix-covered, listPrefixes, list-prefixes, belongs, members}
 
 -- there is one
@@ -51,14 +51,6 @@ led-in p [] h = refl
 led-in p (e ∷ es) h =
     split (leads (e .at) p) (λ t. not-both (rw t) h)
     (λ t. rw (is-false (same p (e .at)) (λ q. not-both (rw (same-says p (e .at) q) (leads-self (e .at))) t)) (led-in p es (rw t at h)))
-
--- what a list says of prefix p
-abbrev pub says : Operation → List Entry → List Entry → Prefix → Record
-says Union L R p = plain p (find p L) (find p R)
-says Intersection L R p = plain p (find p L) (find p R)
-says Difference L R p = plain p (find p L) (find p R)
-says CoveringDifference L R p = plain p (find p L) (find p R)
-says CoveringUnion L R p = covered p (find p L) (find p R) (longest none L p) (longest none R p)
 
 of-prefix : (f : Prefix → Record) → ((p : Prefix) → prefixOf (f p) ≡ p) → (ps : List Prefix) → All (λ r. r ≡ f (prefixOf r)) (map f ps)
 of-prefix f h ps = all-map f (all-true (λ p. sym (ap f (h p))) ps)

@@ -1,19 +1,19 @@
 -- Refusal tables whose rows are said in plain terms, and what their answers then say.
-use mathlib.Core.Path.{_≡_, refl, sym, _∙_, ap}
+use mathlib.Core.Path.{_≡_, refl, sym, _∙_}
 use mathlib.Core.Bool.{Bool, true, false, not, _&&_, _||_, false≢true}
 use mathlib.Core.List.{List, [], _∷_, _++_, map}
-use mathlib.Core.Logic.{_⊎_, inl, inr}
+use mathlib.Core.Logic.{inl, inr}
 use Prim.Native.Nat.{ℕ, _/_, _≤_, _<_}
 use native.Mathlib.Omega.{arith}
 use lib.Dec.{ltb, eqb}
 use lib.ListN.{length}
-use borrow.Author.Tests.{ltb-true, ltb-false, lt-ltb, le-ltb, eqb-true, eqb-false, eq-eqb, ne-eqb, not-true, not-false}
+use borrow.Author.Tests.{ltb-true, ltb-false, lt-ltb, le-ltb, eqb-true, eqb-false, eq-eqb, ne-eqb, not-true}
 use Rattle.defs.specs.declared.Answer.{Answer}
 use Rattle.defs.specs.Basics.{if_then_else_, any, every}
 use Rattle.defs.specs.Check.{faultOf}
 use Rattle.defs.specs.Lists.{recordWords}
 use Rattle.defs.specs.Outcome.{Row, Side, answer, row, firstOf, widthRow}
-use Rattle.defs.specs.Lemmas.{split, not-both, and-left, and-right}
+use Rattle.defs.specs.Lemmas.{split, and-left, and-right}
 use Rattle.defs.specs.OutcomeLaws.{numberOf, givenBy, distinct, given-exactly}
 use Rattle.claims.specs.Terms.{GoodWidth, BadWidth, Faulty, WellFormed, Exactly}
 

@@ -10,11 +10,12 @@ use lib.ListN.{length}
 use Rattle.defs.specs.declared.Prefix.{Prefix}
 use Rattle.defs.specs.declared.Answer.{Answer}
 use Rattle.defs.specs.declared.Operation.{Operation}
+use Rattle.defs.specs.declared.Operation.the-variants.{Union, Intersection, Difference, CoveringDifference, CoveringUnion}
 use Rattle.defs.specs.Basics.{if_then_else_}
 use Rattle.defs.specs.Prefix.{leads}
 use Rattle.defs.specs.Entries.{Entry}
 use Rattle.defs.specs.Check.{faultOf}
-use Rattle.defs.specs.Lists.{Record, missing, noCover, recordOf, find, recordsOf}
+use Rattle.defs.specs.Lists.{Record, missing, noCover, recordOf, plain, covered, find, longest, recordsOf}
 use Rattle.defs.specs.Tidy.{nodesOf}
 use Rattle.defs.specs.Outcome.{Side, entriesOf}
 use Rattle.defs.specs.ListLaws.{prefixOf, IsLongest}
@@ -69,6 +70,14 @@ abbrev pub tagOf : Bool → Bool → ℕ
 tagOf true true = 3
 tagOf true false = 1
 tagOf false b = 2
+
+-- the record that a list has for prefix p, from the entries L and R of the two views
+abbrev pub says : Operation → List Entry → List Entry → Prefix → Record
+says Union L R p = plain p (find p L) (find p R)
+says Intersection L R p = plain p (find p L) (find p R)
+says Difference L R p = plain p (find p L) (find p R)
+says CoveringDifference L R p = plain p (find p L) (find p R)
+says CoveringUnion L R p = covered p (find p L) (find p R) (longest none L p) (longest none R p)
 
 -- what a record of the covering union says, from the entries L and R of the two views
 pub data CoveringUnionSays (L R : List Entry) (p : Prefix) : Record → Type 0 where
