@@ -2,6 +2,7 @@
 use mathlib.Core.Path.{_≡_, refl, sym, _∙_, ap}
 use mathlib.Core.Bool.{true}
 use mathlib.Core.List.{List, [], _∷_, _++_}
+use mathlib.Core.Logic.{_⊎_}
 use Prim.Native.Nat.{ℕ, _*_, _/_, _≤_, _<_}
 use native.Mathlib.Omega.{arith}
 use lib.Dec.{eqb, lit<}
@@ -14,9 +15,11 @@ use Rattle.defs.specs.Check.{faultOf}
 use Rattle.defs.specs.Lists.{recordsOf, wordsOf, sameKeys}
 use Rattle.defs.specs.Tidy.{tidyPool, tidyValues}
 use Rattle.defs.specs.Outcome.{Side, Listed, Tidied, answer, entriesOf, sideRows, listRows, listOutcome, equalOutcome, tidyRows, tidyOutcome, checkRows, checkOutcome}
+use Rattle.pool.specs.Sound.{Formed, formed}
 use Rattle.tidied.specs.Demand3.{tidy-words, tidy-entries}
 use Rattle.claims.specs.Terms.{GoodWidth, BadWidth, Faulty, WellFormed, Exactly, recordCount, tidyNodes, tidyEntries}
 use Rattle.claims.specs.Tables.{exactly, exactly-done, only-these, sideTable, listTable, tidyTable, checkTable}
+use Rattle.claims.specs.Faults.{fault-known}
 use Rattle.claims.specs.Buffers.{words-length, kept, written-done, written-after, written-length}
 
 -- ---- The five lists. `op` says which of them it is, `out` is the buffer lent for the records.
@@ -213,6 +216,14 @@ module _ (width : ℕ) (w : List ℕ) where
   -- Number 0, with the number of nodes beside it and fault number 0, is given exactly when the width is good and the pool has no fault.
   pub check-0 : Exactly (checkOutcome width w) (answer 0 (nodeCount w) 0) (GoodWidth width × WellFormed width w)
   check-0 = exactly-done (checkTable width w) (nodeCount w) refl
+
+  -- A fault is 1 or 2, with node 0, or one of 3 to 8, at one of the pool's nodes.
+  pub check-faults : Faulty width w → let f = faultOf width w in ((f .number ≤ 2) × (f .node ≡ 0)) ⊎ ((3 ≤ f .number) × (f .number ≤ 8) × (f .node < nodeCount w))
+  check-faults h = fault-known width w h
+
+  -- A pool without a fault is as it should be: every node has a depth, words that fit it, and children and values counted from those of all earlier nodes.
+  pub well-formed-is : WellFormed width w → Formed width w
+  well-formed-is h = formed width w h
 
   -- No other number is given.
   pub check-numbers : any (eqb (checkOutcome width w .number)) (0 ∷ 1 ∷ 2 ∷ []) ≡ true

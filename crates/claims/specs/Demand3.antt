@@ -110,6 +110,10 @@ module _ (width : ℕ) (l r : Side) (good : GoodWidth width) (well-l : WellForme
   pub equal-no : (equalOutcome width l r ≡ answer 0 0 0) ↔ (tidyPool (entriesOf l) ≡ tidyPool (entriesOf r) → ⊥)
   equal-no = answers-no (equalOutcome width l r) (sameKeys (entriesOf l) (entriesOf r)) done (tidyPool (entriesOf l) ≡ tidyPool (entriesOf r)) (same-keys-tidy l r)
 
+  -- Two empty views, at whatever roots, are answered with 1.
+  pub equal-empty : entriesOf l ≡ [] → entriesOf r ≡ [] → equalOutcome width l r ≡ answer 0 1 0
+  equal-empty e f = equal-yes .1 (empty-views l r e f .1)
+
 module _ (width : ℕ) (s : Side) (out values : List ℕ) (good : GoodWidth width) (well : WellFormed width (s .pool)) (root : s .root .len ≤ width) where
   -- Where there is room, tidying answers the number of nodes, and leaves the tidy pool and the value list at the front of its buffers.
   pub tidy-outcome : tidyNodes s ≤ length out / 4 → tidyEntries s ≤ length values

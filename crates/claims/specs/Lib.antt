@@ -8,6 +8,7 @@ pub mod WrongVersions
 -- What their proofs rest on.
 pub mod Tables
 pub mod Buffers
+pub mod Faults
 pub mod Members
 pub mod Says
 pub mod Shown

@@ -2,14 +2,17 @@
 use mathlib.Core.Path.{_≡_, refl}
 use mathlib.Core.List.{List, [], _∷_, _++_}
 use Prim.Native.Nat.{ℕ, _^_}
+use native.Mathlib.Omega.{arith}
 use lib.Count.{onesIn}
-use lib.ListN.{getD}
+use lib.Dec.{eqb}
+use lib.ListN.{getD, replicate}
 use Rattle.defs.specs.declared.Operation.{Operation}
 use Rattle.defs.specs.declared.Operation.the-variants.{Union, Intersection, Difference, CoveringDifference, CoveringUnion}
+use Rattle.defs.specs.Basics.{if_then_else_}
 use Rattle.defs.specs.Prefix.{leads, before, same}
 use Rattle.defs.specs.Entries.{places}
 use Rattle.defs.specs.Tidy.{dataPrefixes, childPrefixes, nodesOf}
-use Rattle.defs.specs.Outcome.{Side, answer, listOutcome, equalOutcome, tidyOutcome, checkOutcome}
+use Rattle.defs.specs.Outcome.{Side, Listed, answer, listOutcome, equalOutcome, tidyOutcome, checkOutcome}
 use Rattle.defs.specs.Cases.{C, ip, _at_, whole, gone}
 use Rattle.defs.specs.Borders.{one}
 
@@ -62,6 +65,55 @@ list-none Intersection = refl
 list-none Difference = refl
 list-none CoveringDifference = refl
 list-none CoveringUnion = refl
+
+-- {0/1, 128/1} and {0/0, 128/1}: there no two lists are the same
+abbrev pub halves : List ℕ
+halves = 6 ∷ 0 ∷ 1 ∷ 0 ∷ []
+
+abbrev pub top-and-half : List ℕ
+top-and-half = 5 ∷ 0 ∷ 1 ∷ 0 ∷ []
+
+-- what a list call gives there
+abbrev pub atHalves : Operation → Listed
+atHalves op = listOutcome op 32 (whole halves) (whole top-and-half) (replicate 18 7)
+
+-- which list it was: by the count, and where that is the same by the tag or by the right value word of the second record
+abbrev pub which : Listed → Operation
+which o =
+    if eqb (o .answer .beside) 0 then CoveringDifference
+    else if eqb (o .answer .beside) 3 then (if eqb (getD (o .output) 10 0) gone then Union else CoveringUnion)
+    else (if eqb (getD (o .output) 2 0) 3 then Intersection else Difference)
+
+pub which-list : (op : Operation) → which (atHalves op) ≡ op
+unfolding onesIn leads before same places
+which-list Union = refl
+which-list Intersection = refl
+which-list Difference = refl
+which-list CoveringDifference = refl
+which-list CoveringUnion = refl
+
+-- {0/1, 128/1} and {128/1}, and the same swapped
+abbrev pub straight : Operation → Listed
+straight op = listOutcome op 32 (whole halves) (whole one) (replicate 12 7)
+
+abbrev pub swapped : Operation → Listed
+swapped op = listOutcome op 32 (whole one) (whole halves) (replicate 12 7)
+
+-- a word that tells them apart: the first tag, the first left value or the count
+abbrev pub teller : Operation → Listed → ℕ
+teller Union o = getD (o .output) 2 0
+teller Intersection o = getD (o .output) 3 0
+teller Difference o = o .answer .beside
+teller CoveringDifference o = o .answer .beside
+teller CoveringUnion o = getD (o .output) 2 0
+
+pub sides-differ : (op : Operation) → (teller op (straight op) ≡ 1) × (teller op (swapped op) ≡ 1 → ⊥)
+unfolding onesIn leads before same places
+sides-differ Union = (refl, λ e. omega arith)
+sides-differ Intersection = (refl, λ e. omega arith)
+sides-differ Difference = (refl, λ e. omega arith)
+sides-differ CoveringDifference = (refl, λ e. omega arith)
+sides-differ CoveringUnion = (refl, λ e. omega arith)
 
 -- {128/1} twice: yes; {128/1} and nothing: no; two pools of {0/0}, one with an empty node: yes
 pub equal-yes : equalOutcome 32 (whole one) (whole one) ≡ answer 0 1 0

@@ -3,13 +3,13 @@ use mathlib.Core.Path.{_≡_, sym, _∙_, ap}
 use mathlib.Core.List.{List, [], _∷_, _++_}
 use Prim.Native.Nat.{ℕ, _/_, _<_}
 use native.Mathlib.Omega.{arith}
-use lib.ListN.{length, getD, take, drop}
+use lib.ListN.{length, getD, take, drop, replicate}
 use Rattle.defs.specs.declared.Answer.{Answer}
 use Rattle.defs.specs.declared.Operation.{Operation}
 use Rattle.defs.specs.Outcome.{Side, Listed, Tidied, answer, listOutcome, equalOutcome, tidyOutcome, checkOutcome}
 use Rattle.defs.specs.Cases.{C, whole}
 use Rattle.defs.specs.Borders.{one}
-use Rattle.claims.specs.Shown.{empty, two, upper, room, eight, slot, beside, shown, shown-length, list-one, list-none, equal-yes, equal-no, equal-loose, tidy-one, tidy-two, tidy-less, tidy-upper, check-good, check-bad}
+use Rattle.claims.specs.Shown.{halves, top-and-half, which, which-list, teller, sides-differ, empty, two, upper, room, eight, slot, beside, shown, shown-length, list-one, list-none, equal-yes, equal-no, equal-loose, tidy-one, tidy-two, tidy-less, tidy-upper, check-good, check-bad}
 
 -- ---- The five lists: `call` is any version of list `op` that meets its contract at all inputs.
 module _ (op : Operation) (call : ℕ → Side → Side → List ℕ → Listed)
@@ -52,6 +52,19 @@ module _ (op : Operation) (call : ℕ → Side → Side → List ℕ → Listed)
   pub list-count-not-room : ((width : ℕ) (l r : Side) (out : List ℕ) → call width l r out .answer .number ≡ 0 → call width l r out .answer .beside ≡ length out / 6) → ⊥
   list-count-not-room h =
       omega (arith, h 32 (whole empty) (whole empty) room (ap (λ (o : Listed). o .answer .number) at-none), ap (λ (o : Listed). o .answer .beside) at-none)
+
+  -- It does not take its left side for its right.
+  pub list-not-swapped : ((width : ℕ) (l r : Side) (out : List ℕ) → call width l r out ≡ listOutcome op width r l out) → ⊥
+  list-not-swapped h =
+      sides-differ op .1
+      (ap (teller op) (sym (h 32 (whole halves) (whole one) (replicate 12 7)) ∙ meets 32 (whole halves) (whole one) (replicate 12 7)) ∙ sides-differ op .0)
+
+  -- It is no version of another list.
+  pub list-no-other : (other : Operation) → ((width : ℕ) (l r : Side) (out : List ℕ) → call width l r out ≡ listOutcome other width l r out) → other ≡ op
+  list-no-other other h =
+      sym (which-list other)
+      ∙ ap which (sym (h 32 (whole halves) (whole top-and-half) (replicate 18 7)) ∙ meets 32 (whole halves) (whole top-and-half) (replicate 18 7))
+      ∙ which-list op
 
 -- ---- Key equality: `call` is any version that meets its contract at all inputs.
 module _ (call : ℕ → Side → Side → Answer) (meets : (width : ℕ) (l r : Side) → call width l r ≡ equalOutcome width l r) where
