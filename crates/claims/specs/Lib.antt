@@ -1,5 +1,6 @@
 -- The words that the claims use.
 pub mod Terms
+pub mod Inputs
 -- The claims, to be read after the definitions of `defs`.
 pub mod Demand1
 pub mod Demand2

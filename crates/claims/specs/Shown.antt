@@ -1,5 +1,6 @@
--- A small input for each call, and what the call gives there, computed.
+-- A small input for each call, and what the call is to give there, computed.
 use mathlib.Core.Path.{_≡_, refl}
+use mathlib.Core.Bool.{true, _&&_}
 use mathlib.Core.List.{List, [], _∷_, _++_}
 use Prim.Native.Nat.{ℕ, _^_}
 use native.Mathlib.Omega.{arith}
@@ -12,18 +13,33 @@ use Rattle.defs.specs.Basics.{if_then_else_}
 use Rattle.defs.specs.Prefix.{leads, before, same}
 use Rattle.defs.specs.Entries.{places}
 use Rattle.defs.specs.Tidy.{dataPrefixes, childPrefixes, nodesOf}
-use Rattle.defs.specs.Outcome.{Side, Listed, answer, listOutcome, equalOutcome, tidyOutcome, checkOutcome}
+use Rattle.defs.specs.Outcome.{Listed, answer}
 use Rattle.defs.specs.Cases.{C, ip, _at_, whole, gone}
 use Rattle.defs.specs.Borders.{one}
+use Rattle.claims.specs.Inputs.{ListInput, EqualInput, TidyInput, CheckInput, fitSide, listAt, equalAt, tidyAt, checkAt}
 
--- a pool without entries
+-- ---- pools of one node, beside `one`, {128/1}, and C, {0/0} with an empty node
+-- no entries
 abbrev pub empty : List ℕ
 empty = 0 ∷ 0 ∷ 1 ∷ 0 ∷ []
+
+-- {0/0}
+abbrev pub all : List ℕ
+all = 1 ∷ 0 ∷ 1 ∷ 0 ∷ []
+
+-- {0/1, 128/1}
+abbrev pub halves : List ℕ
+halves = 6 ∷ 0 ∷ 1 ∷ 0 ∷ []
+
+-- {0/0, 128/1}
+abbrev pub all-and-half : List ℕ
+all-and-half = 5 ∷ 0 ∷ 1 ∷ 0 ∷ []
 
 -- room for one record
 abbrev pub room : List ℕ
 room = 7 ∷ 7 ∷ 7 ∷ 7 ∷ 7 ∷ 7 ∷ []
 
+-- ---- lists
 -- a right side with which the list of {128/1} has a record: {128/1} itself, or nothing
 abbrev pub beside : Operation → List ℕ
 beside Union = one
@@ -48,34 +64,40 @@ shown-length Difference = refl
 shown-length CoveringDifference = refl
 shown-length CoveringUnion = refl
 
--- one record
-pub list-one : (op : Operation) → listOutcome op 32 (whole one) (whole (beside op)) room ≡ record { answer = answer 0 1 0; output = shown op }
+pub beside-fits : (op : Operation) → (fitSide (whole (beside op)) && true) ≡ true
+beside-fits Union = refl
+beside-fits Intersection = refl
+beside-fits Difference = refl
+beside-fits CoveringDifference = refl
+beside-fits CoveringUnion = refl
+
+-- the input with that one record
+abbrev pub one-record : Operation → ListInput
+one-record op = record { width = 32; left = whole one; right = whole (beside op); out = room; fits = beside-fits op }
+
+pub gives-one : (op : Operation) → listAt op (one-record op) ≡ record { answer = answer 0 1 0; output = shown op }
 unfolding onesIn leads before same places
-list-one Union = refl
-list-one Intersection = refl
-list-one Difference = refl
-list-one CoveringDifference = refl
-list-one CoveringUnion = refl
+gives-one Union = refl
+gives-one Intersection = refl
+gives-one Difference = refl
+gives-one CoveringDifference = refl
+gives-one CoveringUnion = refl
 
--- no record
-pub list-none : (op : Operation) → listOutcome op 32 (whole empty) (whole empty) room ≡ record { answer = answer 0 0 0; output = room }
+-- an input without records
+abbrev pub no-record : ListInput
+no-record = record { width = 32; left = whole empty; right = whole empty; out = room; fits = refl }
+
+pub gives-none : (op : Operation) → listAt op no-record ≡ record { answer = answer 0 0 0; output = room }
 unfolding onesIn leads before same places
-list-none Union = refl
-list-none Intersection = refl
-list-none Difference = refl
-list-none CoveringDifference = refl
-list-none CoveringUnion = refl
+gives-none Union = refl
+gives-none Intersection = refl
+gives-none Difference = refl
+gives-none CoveringDifference = refl
+gives-none CoveringUnion = refl
 
--- {0/1, 128/1} and {0/0, 128/1}: there no two lists are the same
-abbrev pub halves : List ℕ
-halves = 6 ∷ 0 ∷ 1 ∷ 0 ∷ []
-
-abbrev pub top-and-half : List ℕ
-top-and-half = 5 ∷ 0 ∷ 1 ∷ 0 ∷ []
-
--- what a list call gives there
-abbrev pub atHalves : Operation → Listed
-atHalves op = listOutcome op 32 (whole halves) (whole top-and-half) (replicate 18 7)
+-- an input at which no two lists are the same
+abbrev pub all-differ : ListInput
+all-differ = record { width = 32; left = whole halves; right = whole all-and-half; out = replicate 18 7; fits = refl }
 
 -- which list it was: by the count, and where that is the same by the tag or by the right value word of the second record
 abbrev pub which : Listed → Operation
@@ -84,20 +106,20 @@ which o =
     else if eqb (o .answer .beside) 3 then (if eqb (getD (o .output) 10 0) gone then Union else CoveringUnion)
     else (if eqb (getD (o .output) 2 0) 3 then Intersection else Difference)
 
-pub which-list : (op : Operation) → which (atHalves op) ≡ op
+pub tells-list : (op : Operation) → which (listAt op all-differ) ≡ op
 unfolding onesIn leads before same places
-which-list Union = refl
-which-list Intersection = refl
-which-list Difference = refl
-which-list CoveringDifference = refl
-which-list CoveringUnion = refl
+tells-list Union = refl
+tells-list Intersection = refl
+tells-list Difference = refl
+tells-list CoveringDifference = refl
+tells-list CoveringUnion = refl
 
--- {0/1, 128/1} and {128/1}, and the same swapped
-abbrev pub straight : Operation → Listed
-straight op = listOutcome op 32 (whole halves) (whole one) (replicate 12 7)
+-- an input at which each list changes when the sides are swapped, and that input swapped
+abbrev pub straight : ListInput
+straight = record { width = 32; left = whole halves; right = whole one; out = replicate 12 7; fits = refl }
 
-abbrev pub swapped : Operation → Listed
-swapped op = listOutcome op 32 (whole one) (whole halves) (replicate 12 7)
+abbrev pub swapped : ListInput
+swapped = record { width = 32; left = whole one; right = whole halves; out = replicate 12 7; fits = refl }
 
 -- a word that tells them apart: the first tag, the first left value or the count
 abbrev pub teller : Operation → Listed → ℕ
@@ -107,64 +129,91 @@ teller Difference o = o .answer .beside
 teller CoveringDifference o = o .answer .beside
 teller CoveringUnion o = getD (o .output) 2 0
 
-pub sides-differ : (op : Operation) → (teller op (straight op) ≡ 1) × (teller op (swapped op) ≡ 1 → ⊥)
+pub tells-sides : (op : Operation) → (teller op (listAt op straight) ≡ 1) × (teller op (listAt op swapped) ≡ 1 → ⊥)
 unfolding onesIn leads before same places
-sides-differ Union = (refl, λ e. omega arith)
-sides-differ Intersection = (refl, λ e. omega arith)
-sides-differ Difference = (refl, λ e. omega arith)
-sides-differ CoveringDifference = (refl, λ e. omega arith)
-sides-differ CoveringUnion = (refl, λ e. omega arith)
+tells-sides Union = (refl, λ e. omega arith)
+tells-sides Intersection = (refl, λ e. omega arith)
+tells-sides Difference = (refl, λ e. omega arith)
+tells-sides CoveringDifference = (refl, λ e. omega arith)
+tells-sides CoveringUnion = (refl, λ e. omega arith)
 
--- {128/1} twice: yes; {128/1} and nothing: no; two pools of {0/0}, one with an empty node: yes
-pub equal-yes : equalOutcome 32 (whole one) (whole one) ≡ answer 0 1 0
+-- ---- key equality
+-- two pools that hold the same, two that do not, and two that hold the same in different words
+abbrev pub alike : EqualInput
+alike = record { width = 32; left = whole one; right = whole one; fits = refl }
+
+abbrev pub unlike : EqualInput
+unlike = record { width = 32; left = whole one; right = whole empty; fits = refl }
+
+abbrev pub other-words : EqualInput
+other-words = record { width = 32; left = whole C; right = whole all; fits = refl }
+
+pub gives-yes : equalAt alike ≡ answer 0 1 0
 unfolding onesIn leads before same places
-equal-yes = refl
+gives-yes = refl
 
-pub equal-no : equalOutcome 32 (whole one) (whole empty) ≡ answer 0 0 0
+pub gives-no : equalAt unlike ≡ answer 0 0 0
 unfolding onesIn leads before same places
-equal-no = refl
+gives-no = refl
 
-pub equal-loose : equalOutcome 32 (whole C) (whole (1 ∷ 0 ∷ 1 ∷ 0 ∷ [])) ≡ answer 0 1 0
+pub gives-yes-still : equalAt other-words ≡ answer 0 1 0
 unfolding onesIn leads before same places
-equal-loose = refl
+gives-yes-still = refl
 
--- room for two nodes, and for one value
+-- ---- tidying
+-- a side, with room for two nodes and one value
 abbrev pub eight : List ℕ
 eight = 7 ∷ 7 ∷ 7 ∷ 7 ∷ 7 ∷ 7 ∷ 7 ∷ 7 ∷ []
 
 abbrev pub slot : List ℕ
 slot = 7 ∷ []
 
--- {128/1} is tidy
-pub tidy-one : tidyOutcome 32 (whole one) eight slot ≡ record { answer = answer 0 1 0; output = one ++ (7 ∷ 7 ∷ 7 ∷ 7 ∷ []); values = 0 ∷ [] }
-unfolding onesIn leads before same places dataPrefixes childPrefixes nodesOf
-tidy-one = refl
+-- {128/1}, which is tidy
+abbrev pub tidy-one : TidyInput
+tidy-one = record { width = 32; side = whole one; out = eight; values = slot; fits = refl }
 
--- the pool with an empty node is not
-pub tidy-less : tidyOutcome 32 (whole C) eight slot ≡ record { answer = answer 0 1 0; output = 1 ∷ 0 ∷ 1 ∷ 0 ∷ 7 ∷ 7 ∷ 7 ∷ 7 ∷ []; values = 0 ∷ [] }
+pub gives-itself : tidyAt tidy-one ≡ record { answer = answer 0 1 0; output = one ++ (7 ∷ 7 ∷ 7 ∷ 7 ∷ []); values = 0 ∷ [] }
 unfolding onesIn leads before same places dataPrefixes childPrefixes nodesOf
-tidy-less = refl
+gives-itself = refl
 
--- two nodes
+-- {0/0} with an empty node, which is not
+abbrev pub tidy-loose : TidyInput
+tidy-loose = record { width = 32; side = whole C; out = eight; values = slot; fits = refl }
+
+pub gives-less : tidyAt tidy-loose ≡ record { answer = answer 0 1 0; output = all ++ (7 ∷ 7 ∷ 7 ∷ 7 ∷ []); values = 0 ∷ [] }
+unfolding onesIn leads before same places dataPrefixes childPrefixes nodesOf
+gives-less = refl
+
+-- {0/5}, in two nodes
 abbrev pub two : List ℕ
 two = 0 ∷ 1 ∷ 1 ∷ 0 ∷ 1 ∷ 0 ∷ 2 ∷ 0 ∷ []
 
-pub tidy-two : tidyOutcome 32 (whole two) eight slot ≡ record { answer = answer 0 2 0; output = two; values = 0 ∷ [] }
+abbrev pub tidy-two : TidyInput
+tidy-two = record { width = 32; side = whole two; out = eight; values = slot; fits = refl }
+
+pub gives-two : tidyAt tidy-two ≡ record { answer = answer 0 2 0; output = two; values = 0 ∷ [] }
 unfolding onesIn leads before same places dataPrefixes childPrefixes nodesOf
-tidy-two = refl
+gives-two = refl
 
--- {0/0, 128/1} at 128/1: its one value is the old one of index 1
-abbrev pub upper : Side
-upper = (5 ∷ 0 ∷ 1 ∷ 0 ∷ []) at ip 128 0 1
+-- {0/0, 128/1} at 128/1, whose one value is the old one of index 1
+abbrev pub tidy-upper : TidyInput
+tidy-upper = record { width = 32; side = all-and-half at ip 128 0 1; out = eight; values = slot; fits = refl }
 
-pub tidy-upper : tidyOutcome 32 upper eight slot ≡ record { answer = answer 0 1 0; output = one ++ (7 ∷ 7 ∷ 7 ∷ 7 ∷ []); values = 1 ∷ [] }
+pub gives-upper : tidyAt tidy-upper ≡ record { answer = answer 0 1 0; output = one ++ (7 ∷ 7 ∷ 7 ∷ 7 ∷ []); values = 1 ∷ [] }
 unfolding onesIn leads before same places dataPrefixes childPrefixes nodesOf
-tidy-upper = refl
+gives-upper = refl
 
--- a good pool and one of no words
-pub check-good : checkOutcome 32 one ≡ answer 0 1 0
+-- ---- the check
+-- a good pool, and one of no words
+abbrev pub good-pool : CheckInput
+good-pool = record { width = 32; words = one; fits = refl }
+
+abbrev pub no-words : CheckInput
+no-words = record { width = 32; words = []; fits = refl }
+
+pub gives-good : checkAt good-pool ≡ answer 0 1 0
 unfolding onesIn
-check-good = refl
+gives-good = refl
 
-pub check-bad : checkOutcome 32 [] ≡ answer 2 0 1
-check-bad = refl
+pub gives-fault : checkAt no-words ≡ answer 2 0 1
+gives-fault = refl

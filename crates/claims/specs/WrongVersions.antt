@@ -1,157 +1,140 @@
--- Whole wrong versions of the calls. Each meets no contract: at a small input it differs from the outcome defined.
+-- Whole wrong versions of the calls meet no contract: each differs from the outcome defined at a small input. Inputs are those that fit the code's types.
 use mathlib.Core.Path.{_≡_, sym, _∙_, ap}
-use mathlib.Core.List.{List, [], _∷_, _++_}
+use mathlib.Core.List.{List, _++_}
 use Prim.Native.Nat.{ℕ, _/_, _<_}
 use native.Mathlib.Omega.{arith}
-use lib.ListN.{length, getD, take, drop, replicate}
+use lib.ListN.{length, getD, take, drop}
 use Rattle.defs.specs.declared.Answer.{Answer}
 use Rattle.defs.specs.declared.Operation.{Operation}
-use Rattle.defs.specs.Outcome.{Side, Listed, Tidied, answer, listOutcome, equalOutcome, tidyOutcome, checkOutcome}
-use Rattle.defs.specs.Cases.{C, whole}
-use Rattle.defs.specs.Borders.{one}
-use Rattle.claims.specs.Shown.{halves, top-and-half, which, which-list, teller, sides-differ, empty, two, upper, room, eight, slot, beside, shown, shown-length, list-one, list-none, equal-yes, equal-no, equal-loose, tidy-one, tidy-two, tidy-less, tidy-upper, check-good, check-bad}
+use Rattle.defs.specs.Outcome.{Listed, Tidied, answer, listOutcome}
+use Rattle.claims.specs.Inputs.{ListInput, EqualInput, TidyInput, CheckInput, listAt, equalAt, tidyAt, checkAt}
+use Rattle.claims.specs.Shown.{empty, room, shown, shown-length, one-record, gives-one, no-record, gives-none, all-differ, which, tells-list, straight, teller, tells-sides}
+use Rattle.claims.specs.Shown.{alike, unlike, other-words, gives-yes, gives-no, gives-yes-still, good-pool, no-words, gives-good, gives-fault}
+use Rattle.claims.specs.Shown.{tidy-one, tidy-loose, tidy-two, tidy-upper, gives-itself, gives-less, gives-two, gives-upper}
 
--- ---- The five lists: `call` is any version of list `op` that meets its contract at all inputs.
-module _ (op : Operation) (call : ℕ → Side → Side → List ℕ → Listed)
-    (meets : (width : ℕ) (l r : Side) (out : List ℕ) → call width l r out ≡ listOutcome op width l r out) where
+-- ---- The five lists: `call` is any version of list `op` that meets its contract.
+module _ (op : Operation) (call : ListInput → Listed) (meets : (i : ListInput) → call i ≡ listAt op i) where
   -- what it gives at the input with one record
-  at-one : call 32 (whole one) (whole (beside op)) room ≡ record { answer = answer 0 1 0; output = shown op }
-  at-one = meets 32 (whole one) (whole (beside op)) room ∙ list-one op
+  at-one : call (one-record op) ≡ record { answer = answer 0 1 0; output = shown op }
+  at-one = meets (one-record op) ∙ gives-one op
 
-  -- what it gives at the input with none
-  at-none : call 32 (whole empty) (whole empty) room ≡ record { answer = answer 0 0 0; output = room }
-  at-none = meets 32 (whole empty) (whole empty) room ∙ list-none op
+  -- what it gives at the input without records
+  at-none : call no-record ≡ record { answer = answer 0 0 0; output = room }
+  at-none = meets no-record ∙ gives-none op
 
   -- It does not always refuse.
-  pub list-not-always-refused : ((width : ℕ) (l r : Side) (out : List ℕ) → 0 < call width l r out .answer .number) → ⊥
-  list-not-always-refused h = omega (arith, h 32 (whole one) (whole (beside op)) room, ap (λ (o : Listed). o .answer .number) at-one)
+  pub list-not-always-refused : ((i : ListInput) → 0 < call i .answer .number) → ⊥
+  list-not-always-refused h = omega (arith, h (one-record op), ap (λ (o : Listed). o .answer .number) at-one)
 
   -- It does not always answer the empty list.
-  pub list-not-always-empty : ((width : ℕ) (l r : Side) (out : List ℕ) → call width l r out .answer .number ≡ 0 → call width l r out .answer .beside ≡ 0) → ⊥
+  pub list-not-always-empty : ((i : ListInput) → call i .answer .number ≡ 0 → call i .answer .beside ≡ 0) → ⊥
   list-not-always-empty h =
-      omega (arith, h 32 (whole one) (whole (beside op)) room (ap (λ (o : Listed). o .answer .number) at-one), ap (λ (o : Listed). o .answer .beside) at-one)
+      omega (arith, h (one-record op) (ap (λ (o : Listed). o .answer .number) at-one), ap (λ (o : Listed). o .answer .beside) at-one)
 
   -- It does not always leave its output as it was.
-  pub list-not-always-silent : ((width : ℕ) (l r : Side) (out : List ℕ) → call width l r out .output ≡ out) → ⊥
+  pub list-not-always-silent : ((i : ListInput) → call i .output ≡ i .out) → ⊥
   list-not-always-silent h =
-      let e : shown op ≡ room = sym (ap (λ (o : Listed). o .output) at-one) ∙ h 32 (whole one) (whole (beside op)) room in
+      let e : shown op ≡ room = sym (ap (λ (o : Listed). o .output) at-one) ∙ h (one-record op) in
       omega (arith, shown-length op, ap (λ (x : List ℕ). getD x 1 0) e)
 
   -- It does not answer a count that is always the same.
-  pub list-count-not-fixed : (n : ℕ) → ((width : ℕ) (l r : Side) (out : List ℕ) → call width l r out .answer .number ≡ 0 → call width l r out .answer .beside ≡ n) → ⊥
+  pub list-count-not-fixed : (n : ℕ) → ((i : ListInput) → call i .answer .number ≡ 0 → call i .answer .beside ≡ n) → ⊥
   list-count-not-fixed n h =
       omega (
         arith,
-        h 32 (whole one) (whole (beside op)) room (ap (λ (o : Listed). o .answer .number) at-one),
+        h (one-record op) (ap (λ (o : Listed). o .answer .number) at-one),
         ap (λ (o : Listed). o .answer .beside) at-one,
-        h 32 (whole empty) (whole empty) room (ap (λ (o : Listed). o .answer .number) at-none),
+        h no-record (ap (λ (o : Listed). o .answer .number) at-none),
         ap (λ (o : Listed). o .answer .beside) at-none,
       )
 
   -- It does not answer the number of records that there is room for.
-  pub list-count-not-room : ((width : ℕ) (l r : Side) (out : List ℕ) → call width l r out .answer .number ≡ 0 → call width l r out .answer .beside ≡ length out / 6) → ⊥
+  pub list-count-not-room : ((i : ListInput) → call i .answer .number ≡ 0 → call i .answer .beside ≡ length (i .out) / 6) → ⊥
   list-count-not-room h =
-      omega (arith, h 32 (whole empty) (whole empty) room (ap (λ (o : Listed). o .answer .number) at-none), ap (λ (o : Listed). o .answer .beside) at-none)
+      omega (arith, h no-record (ap (λ (o : Listed). o .answer .number) at-none), ap (λ (o : Listed). o .answer .beside) at-none)
 
   -- It does not take its left side for its right.
-  pub list-not-swapped : ((width : ℕ) (l r : Side) (out : List ℕ) → call width l r out ≡ listOutcome op width r l out) → ⊥
-  list-not-swapped h =
-      sides-differ op .1
-      (ap (teller op) (sym (h 32 (whole halves) (whole one) (replicate 12 7)) ∙ meets 32 (whole halves) (whole one) (replicate 12 7)) ∙ sides-differ op .0)
+  pub list-not-swapped : ((i : ListInput) → call i ≡ listOutcome op (i .width) (i .right) (i .left) (i .out)) → ⊥
+  list-not-swapped h = tells-sides op .1 (ap (teller op) (sym (h straight) ∙ meets straight) ∙ tells-sides op .0)
 
   -- It is no version of another list.
-  pub list-no-other : (other : Operation) → ((width : ℕ) (l r : Side) (out : List ℕ) → call width l r out ≡ listOutcome other width l r out) → other ≡ op
-  list-no-other other h =
-      sym (which-list other)
-      ∙ ap which (sym (h 32 (whole halves) (whole top-and-half) (replicate 18 7)) ∙ meets 32 (whole halves) (whole top-and-half) (replicate 18 7))
-      ∙ which-list op
+  pub list-no-other : (other : Operation) → ((i : ListInput) → call i ≡ listAt other i) → other ≡ op
+  list-no-other other h = sym (tells-list other) ∙ ap which (sym (h all-differ) ∙ meets all-differ) ∙ tells-list op
 
--- ---- Key equality: `call` is any version that meets its contract at all inputs.
-module _ (call : ℕ → Side → Side → Answer) (meets : (width : ℕ) (l r : Side) → call width l r ≡ equalOutcome width l r) where
+-- ---- Key equality: `call` is any version that meets its contract.
+module _ (call : EqualInput → Answer) (meets : (i : EqualInput) → call i ≡ equalAt i) where
   -- It does not always refuse.
-  pub equal-not-always-refused : ((width : ℕ) (l r : Side) → 0 < call width l r .number) → ⊥
-  equal-not-always-refused h = omega (arith, h 32 (whole one) (whole one), ap (λ (a : Answer). a .number) (meets 32 (whole one) (whole one) ∙ equal-yes))
+  pub equal-not-always-refused : ((i : EqualInput) → 0 < call i .number) → ⊥
+  equal-not-always-refused h = omega (arith, h alike, ap (λ (a : Answer). a .number) (meets alike ∙ gives-yes))
 
   -- It does not always say yes.
-  pub equal-not-always-yes : ((width : ℕ) (l r : Side) → call width l r .number ≡ 0 → call width l r .beside ≡ 1) → ⊥
+  pub equal-not-always-yes : ((i : EqualInput) → call i .number ≡ 0 → call i .beside ≡ 1) → ⊥
   equal-not-always-yes h =
-      let e = meets 32 (whole one) (whole empty) ∙ equal-no in
-      omega (arith, h 32 (whole one) (whole empty) (ap (λ (a : Answer). a .number) e), ap (λ (a : Answer). a .beside) e)
+      let e = meets unlike ∙ gives-no in
+      omega (arith, h unlike (ap (λ (a : Answer). a .number) e), ap (λ (a : Answer). a .beside) e)
 
   -- It does not always say no.
-  pub equal-not-always-no : ((width : ℕ) (l r : Side) → call width l r .number ≡ 0 → call width l r .beside ≡ 0) → ⊥
+  pub equal-not-always-no : ((i : EqualInput) → call i .number ≡ 0 → call i .beside ≡ 0) → ⊥
   equal-not-always-no h =
-      let e = meets 32 (whole one) (whole one) ∙ equal-yes in
-      omega (arith, h 32 (whole one) (whole one) (ap (λ (a : Answer). a .number) e), ap (λ (a : Answer). a .beside) e)
+      let e = meets alike ∙ gives-yes in
+      omega (arith, h alike (ap (λ (a : Answer). a .number) e), ap (λ (a : Answer). a .beside) e)
 
-  -- It does not say yes only where the pools' words are the same: an empty node may stand in one and not in the other.
-  pub equal-not-by-words : ((width : ℕ) (l r : Side) → call width l r .beside ≡ 1 → l .pool ≡ r .pool) → ⊥
+  -- It does not say yes only where the pools' words are the same: one may have an empty node that the other lacks.
+  pub equal-not-by-words : ((i : EqualInput) → call i .beside ≡ 1 → i .left .pool ≡ i .right .pool) → ⊥
   equal-not-by-words h =
-      let e = meets 32 (whole C) (whole (1 ∷ 0 ∷ 1 ∷ 0 ∷ [])) ∙ equal-loose in
-      omega (arith, ap (λ (w : List ℕ). getD w 1 0) (h 32 (whole C) (whole (1 ∷ 0 ∷ 1 ∷ 0 ∷ [])) (ap (λ (a : Answer). a .beside) e)))
+      omega (arith, ap (λ (w : List ℕ). getD w 1 0) (h other-words (ap (λ (a : Answer). a .beside) (meets other-words ∙ gives-yes-still))))
 
--- ---- Tidying: `call` is any version that meets its contract at all inputs.
-module _ (call : ℕ → Side → List ℕ → List ℕ → Tidied)
-    (meets : (width : ℕ) (s : Side) (out values : List ℕ) → call width s out values ≡ tidyOutcome width s out values) where
+-- ---- Tidying: `call` is any version that meets its contract.
+module _ (call : TidyInput → Tidied) (meets : (i : TidyInput) → call i ≡ tidyAt i) where
   -- It does not always refuse.
-  pub tidy-not-always-refused : ((width : ℕ) (s : Side) (out values : List ℕ) → 0 < call width s out values .answer .number) → ⊥
-  tidy-not-always-refused h =
-      omega (arith, h 32 (whole one) eight slot, ap (λ (o : Tidied). o .answer .number) (meets 32 (whole one) eight slot ∙ tidy-one))
+  pub tidy-not-always-refused : ((i : TidyInput) → 0 < call i .answer .number) → ⊥
+  tidy-not-always-refused h = omega (arith, h tidy-one, ap (λ (o : Tidied). o .answer .number) (meets tidy-one ∙ gives-itself))
 
   -- It does not always write the empty pool.
-  pub tidy-not-always-empty : ((width : ℕ) (s : Side) (out values : List ℕ) → call width s out values .answer .number ≡ 0 → take 4 (call width s out values .output) ≡ empty) → ⊥
+  pub tidy-not-always-empty : ((i : TidyInput) → call i .answer .number ≡ 0 → take 4 (call i .output) ≡ empty) → ⊥
   tidy-not-always-empty h =
-      let e = meets 32 (whole one) eight slot ∙ tidy-one in
-      omega (
-        arith,
-        ap (λ (w : List ℕ). getD w 0 0)
-            (ap (λ (o : Tidied). take 4 (o .output)) (sym e) ∙ h 32 (whole one) eight slot (ap (λ (o : Tidied). o .answer .number) e)),
-      )
+      let e = meets tidy-one ∙ gives-itself in
+      let f = ap (λ (o : Tidied). take 4 (o .output)) (sym e) ∙ h tidy-one (ap (λ (o : Tidied). o .answer .number) e) in
+      omega (arith, ap (λ (w : List ℕ). getD w 0 0) f)
 
   -- It does not copy its input.
-  pub tidy-not-copied : ((width : ℕ) (s : Side) (out values : List ℕ) → call width s out values .answer .number ≡ 0
-      → call width s out values .output ≡ s .pool ++ drop (length (s .pool)) out) → ⊥
+  pub tidy-not-copied : ((i : TidyInput) → call i .answer .number ≡ 0 → call i .output ≡ i .side .pool ++ drop (length (i .side .pool)) (i .out)) → ⊥
   tidy-not-copied h =
-      let e = meets 32 (whole C) eight slot ∙ tidy-less in
-      omega (
-        arith,
-        ap (λ (w : List ℕ). getD w 1 0) (ap (λ (o : Tidied). o .output) (sym e) ∙ h 32 (whole C) eight slot (ap (λ (o : Tidied). o .answer .number) e)),
-      )
+      let e = meets tidy-loose ∙ gives-less in
+      let f = ap (λ (o : Tidied). o .output) (sym e) ∙ h tidy-loose (ap (λ (o : Tidied). o .answer .number) e) in
+      omega (arith, ap (λ (w : List ℕ). getD w 1 0) f)
 
   -- It does not always leave its output as it was.
-  pub tidy-not-always-silent : ((width : ℕ) (s : Side) (out values : List ℕ) → call width s out values .output ≡ out) → ⊥
+  pub tidy-not-always-silent : ((i : TidyInput) → call i .output ≡ i .out) → ⊥
   tidy-not-always-silent h =
-      omega (
-        arith,
-        ap (λ (w : List ℕ). getD w 0 0) (ap (λ (o : Tidied). o .output) (sym (meets 32 (whole one) eight slot ∙ tidy-one)) ∙ h 32 (whole one) eight slot),
-      )
+      let f = ap (λ (o : Tidied). o .output) (sym (meets tidy-one ∙ gives-itself)) ∙ h tidy-one in
+      omega (arith, ap (λ (w : List ℕ). getD w 0 0) f)
 
   -- It does not answer a count that is always the same.
-  pub tidy-count-not-fixed : (n : ℕ) → ((width : ℕ) (s : Side) (out values : List ℕ) → call width s out values .answer .number ≡ 0 → call width s out values .answer .beside ≡ n) → ⊥
+  pub tidy-count-not-fixed : (n : ℕ) → ((i : TidyInput) → call i .answer .number ≡ 0 → call i .answer .beside ≡ n) → ⊥
   tidy-count-not-fixed n h =
-      let e = meets 32 (whole one) eight slot ∙ tidy-one in
-      let f = meets 32 (whole two) eight slot ∙ tidy-two in
+      let e = meets tidy-one ∙ gives-itself in
+      let f = meets tidy-two ∙ gives-two in
       omega (
         arith,
-        h 32 (whole one) eight slot (ap (λ (o : Tidied). o .answer .number) e),
+        h tidy-one (ap (λ (o : Tidied). o .answer .number) e),
         ap (λ (o : Tidied). o .answer .beside) e,
-        h 32 (whole two) eight slot (ap (λ (o : Tidied). o .answer .number) f),
+        h tidy-two (ap (λ (o : Tidied). o .answer .number) f),
         ap (λ (o : Tidied). o .answer .beside) f,
       )
 
   -- Its value list does not always start with 0, as a list of new numbers would.
-  pub tidy-values-not-new : ((width : ℕ) (s : Side) (out values : List ℕ) → call width s out values .answer .number ≡ 0
-      → getD (call width s out values .values) 0 0 ≡ 0) → ⊥
+  pub tidy-values-not-new : ((i : TidyInput) → call i .answer .number ≡ 0 → getD (call i .values) 0 0 ≡ 0) → ⊥
   tidy-values-not-new h =
-      let e = meets 32 upper eight slot ∙ tidy-upper in
-      omega (arith, h 32 upper eight slot (ap (λ (o : Tidied). o .answer .number) e), ap (λ (o : Tidied). getD (o .values) 0 0) e)
+      let e = meets tidy-upper ∙ gives-upper in
+      omega (arith, h tidy-upper (ap (λ (o : Tidied). o .answer .number) e), ap (λ (o : Tidied). getD (o .values) 0 0) e)
 
--- ---- The check: `call` is any version that meets its contract at all inputs.
-module _ (call : ℕ → List ℕ → Answer) (meets : (width : ℕ) (w : List ℕ) → call width w ≡ checkOutcome width w) where
+-- ---- The check: `call` is any version that meets its contract.
+module _ (call : CheckInput → Answer) (meets : (i : CheckInput) → call i ≡ checkAt i) where
   -- It does not always say 0.
-  pub check-not-always-good : ((width : ℕ) (w : List ℕ) → call width w .number ≡ 0) → ⊥
-  check-not-always-good h = omega (arith, h 32 [], ap (λ (a : Answer). a .number) (meets 32 [] ∙ check-bad))
+  pub check-not-always-good : ((i : CheckInput) → call i .number ≡ 0) → ⊥
+  check-not-always-good h = omega (arith, h no-words, ap (λ (a : Answer). a .number) (meets no-words ∙ gives-fault))
 
   -- It does not always refuse.
-  pub check-not-always-refused : ((width : ℕ) (w : List ℕ) → 0 < call width w .number) → ⊥
-  check-not-always-refused h = omega (arith, h 32 one, ap (λ (a : Answer). a .number) (meets 32 one ∙ check-good))
+  pub check-not-always-refused : ((i : CheckInput) → 0 < call i .number) → ⊥
+  check-not-always-refused h = omega (arith, h good-pool, ap (λ (a : Answer). a .number) (meets good-pool ∙ gives-good))
