@@ -1,5 +1,5 @@
 # What one does with this repository. 'make help' lists it.
-.PHONY: help run test prove vectors clean
+.PHONY: help run test prove lib bench vectors clean
 
 help: ## this list
 	@grep -hE '^[a-z]+:.*## ' $(MAKEFILE_LIST) | sed -E 's/:.*## /	/' | expand -t 12
@@ -17,6 +17,15 @@ test: ## the whole test suite: proofs, must-fail edits, programs, Rust tests
 prove: ## prove what changed since the last run; quick, and not the verdict
 	@tests/tools
 	@rt check
+
+lib: ## prove and build the static library for C and Rust, target/staticlib/liblhamtrovi.a
+	@tests/tools
+	@mkdir -p build
+	@rt staticlib lhamtrovi > build/rt-staticlib.log 2>&1 || { tail -n 20 build/rt-staticlib.log; exit 1; }
+	@echo target/staticlib/liblhamtrovi.a
+
+bench: lib ## time the library against ordinary fast Rust; the table goes to docs/BENCHMARKS.md by hand, the plot to docs/benchmarks.svg
+	@cargo run --offline --release --quiet --manifest-path rust/Cargo.toml -p bench -- docs/benchmarks.svg
 
 vectors: ## make the stored vectors anew from the Rust reference
 	@tests/tools

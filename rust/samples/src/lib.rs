@@ -5,5 +5,6 @@
 mod random;
 mod tables;
 
+pub use pools::{words, Table};
 pub use random::Random;
-pub use tables::{large, varied, words, Table};
+pub use tables::{large, varied};
