@@ -19,6 +19,8 @@ use Rattle.bits.specs.PlaceLaws.{place-prefix, place-len-below, child-place}
 use Rattle.theory.specs.declared.Node.{Node}
 use Rattle.theory.specs.declared.Node.the-variants as node
 use Rattle.theory.specs.declared.Value.{Value}
+use Rattle.theory.specs.declared.Value.the-variants as value
+use Rattle.theory.specs.declared.Cover.the-variants as cover
 use Rattle.theory.specs.declared.Covers.{Covers}
 use Rattle.theory.specs.declared.Emit.{Emit}
 use Rattle.theory.specs.declared.Emit.the-variants as emit
@@ -29,7 +31,7 @@ use Rattle.theory.specs.declared.Step.the-variants as step
 use Rattle.theory.specs.Sides.{valueIn, childIn}
 use Rattle.theory.specs.Down.{whole-deeper}
 use Rattle.theory.specs.Steps
-use Rattle.theory.specs.Steps.{Job, carried, coversAt, emitOf, given, downTo, stepAt, stepOf, without, enter}
+use Rattle.theory.specs.Steps.{Job, carried, noCovers, coversAt, emitOf, given, downTo, stepAt, stepOf, without, enter}
 use Rattle.theory.specs.Todo.{Lowest, lowest}
 use Rattle.theory.specs.Walk.{LevelOk, places-length}
 use Rattle.view.specs.Standing.{child-in}
@@ -48,13 +50,30 @@ pub down-left : (j : Job) (f : Level) (q : Prefix) (l r : Node) (above : Covers)
     → step.Down f g ≡ downTo j f q l r above
 down-left j f q l r above g i a h = ap (step.Down f) h ∙ rw a
 
--- covers matter to the covering union alone
-emit-carried : (op : Operation) (q : Prefix) (a b : Value) (c : Covers) → emitOf op q a b (carried op c .left) (carried op c .right) ≡ emitOf op q a b (c .left) (c .right)
-emit-carried Union q a b c = refl
-emit-carried Intersection q a b c = refl
-emit-carried Difference q a b c = refl
-emit-carried CoveringDifference q a b c = refl
-emit-carried CoveringUnion q a b c = refl
+-- the covers that an item may show: of the side that has no value there, in a covering union
+abbrev pub shownTo : Value → Value → Covers → Covers
+shownTo value.Missing value.Missing c = noCovers
+shownTo (value.Is a) value.Missing c = record { left = cover.Nothing; right = c .right }
+shownTo value.Missing (value.Is b) c = record { left = c .left; right = cover.Nothing }
+shownTo (value.Is a) (value.Is b) c = noCovers
+
+abbrev pub needed : Operation → Value → Value → Covers → Covers
+needed Union a b c = noCovers
+needed Intersection a b c = noCovers
+needed Difference a b c = noCovers
+needed CoveringDifference a b c = noCovers
+needed CoveringUnion a b c = shownTo a b c
+
+-- the others play no part in the item
+emit-needed : (op : Operation) (q : Prefix) (a b : Value) (c : Covers) → emitOf op q a b (needed op a b c .left) (needed op a b c .right) ≡ emitOf op q a b (c .left) (c .right)
+emit-needed Union q a b c = refl
+emit-needed Intersection q a b c = refl
+emit-needed Difference q a b c = refl
+emit-needed CoveringDifference q a b c = refl
+emit-needed CoveringUnion q value.Missing value.Missing c = refl
+emit-needed CoveringUnion q value.Missing (value.Is b) c = refl
+emit-needed CoveringUnion q (value.Is a) value.Missing c = refl
+emit-needed CoveringUnion q (value.Is a) (value.Is b) c = refl
 
 carried-again : (op : Operation) (c : Covers) → carried op (carried op c) ≡ carried op c
 carried-again Union c = refl
@@ -72,7 +91,7 @@ module _ (j : Job) (f : Level) (pass : Passing j f) (fits : f .prefix .key < 2 ^
 
     pub data-step : (a b : Value) → a ≡ valueIn (j .left .pool) (j .left .root) (f .left) (placeLen h) (placeValue h) q
         → b ≡ valueIn (j .right .pool) (j .right .root) (f .right) (placeLen h) (placeValue h) q
-        → (c : Covers) → c ≡ carried (j .op) (coversAt j f (placeLen h) (placeValue h)) → (e : Emit) → e ≡ emitOf (j .op) q a b (c .left) (c .right)
+        → (c : Covers) → c ≡ needed (j .op) a b (coversAt j f (placeLen h) (placeValue h)) → (e : Emit) → e ≡ emitOf (j .op) q a b (c .left) (c .right)
         → given e f ≡ stepAt j f (dataPlace (placeLen h) (placeValue h))
     data-step a b ea eb c ec e ee =
         let n = placeLen h in
@@ -80,18 +99,18 @@ module _ (j : Job) (f : Level) (pass : Passing j f) (fits : f .prefix .key < 2 ^
         let d = deeper (f .prefix) n v in
         let s = coversAt j f n v in
         let k : e ≡ emitOf (j .op) d (valueIn (j .left .pool) (j .left .root) (f .left) n v d) (valueIn (j .right .pool) (j .right .root) (f .right) n v d) (s .left) (s .right) =
-        ee ∙ rw (ec, emit-carried (j .op) q a b s, ea, eb, data-prefix) in
+        ee ∙ rw (ec, emit-needed (j .op) q a b s, ea, eb, data-prefix) in
         ap (λ (x : Emit). given x f) k
 
     pub data-none : (a b : Value) → a ≡ valueIn (j .left .pool) (j .left .root) (f .left) (placeLen h) (placeValue h) q
         → b ≡ valueIn (j .right .pool) (j .right .root) (f .right) (placeLen h) (placeValue h) q
-        → (c : Covers) → c ≡ carried (j .op) (coversAt j f (placeLen h) (placeValue h)) → (e : Emit) → e ≡ emitOf (j .op) q a b (c .left) (c .right)
+        → (c : Covers) → c ≡ needed (j .op) a b (coversAt j f (placeLen h) (placeValue h)) → (e : Emit) → e ≡ emitOf (j .op) q a b (c .left) (c .right)
         → e ≡ emit.Nothing → step.Skip f ≡ stepAt j f (dataPlace (placeLen h) (placeValue h))
     data-none a b ea eb c ec e ee n = ap (λ (x : Emit). given x f) (sym n) ∙ data-step a b ea eb c ec e ee
 
     pub data-one : (a b : Value) → a ≡ valueIn (j .left .pool) (j .left .root) (f .left) (placeLen h) (placeValue h) q
         → b ≡ valueIn (j .right .pool) (j .right .root) (f .right) (placeLen h) (placeValue h) q
-        → (c : Covers) → c ≡ carried (j .op) (coversAt j f (placeLen h) (placeValue h)) → (e : Emit) → e ≡ emitOf (j .op) q a b (c .left) (c .right)
+        → (c : Covers) → c ≡ needed (j .op) a b (coversAt j f (placeLen h) (placeValue h)) → (e : Emit) → e ≡ emitOf (j .op) q a b (c .left) (c .right)
         → (i : Item) → e ≡ emit.One i → step.Record i f ≡ stepAt j f (dataPlace (placeLen h) (placeValue h))
     data-one a b ea eb c ec e ee i n = ap (λ (x : Emit). given x f) (sym n) ∙ data-step a b ea eb c ec e ee
 

@@ -11,6 +11,7 @@ ghost use Rattle.theory.specs.Loop.{recordsWords};
 ghost use Rattle.bits.specs.Places.{placeLen, placeValue};
 ghost use Rattle.sets.specs.Ready.{jobOf, Entering, Passing, Ready};
 ghost use Rattle.sets.specs.Maps.{mapsOf};
+ghost use Rattle.sets.specs.Moves.{shownTo, needed};
 ghost use Rattle.sets.specs.Loops.{Room, keptOrWritten};
 use crate::Roots;
 use crate::covering_difference;
@@ -121,6 +122,57 @@ fn covers_for(op: Operation, l: &[u32], r: &[u32], roots: Roots, f: Level, h: u3
     }
 }
 
+// The cover that an item at place h may show, by the values there: of the side that has none.
+fn cover_shown(l: &[u32], r: &[u32], roots: Roots, f: Level, h: u32, a: Value, b: Value) -> Covers
+    requires { ⌜ Entering (jobOf Operation.CoveringUnion (now l) (now r) roots) (f .prefix) (f .left) (f .right) × (0 < h) × (h < 64) ⌝ }
+    ensures { λ c. ⌜ c ≡ shownTo a b (coversAt (jobOf Operation.CoveringUnion (now (l .entry)) (now (r .entry)) roots) f (placeLen h) (placeValue h)) ⌝ }
+{
+    let x = f.left;
+    let y = f.right;
+    let above = f.above;
+    let above_left = above.left;
+    let above_right = above.right;
+    match a {
+        Value::Missing => match b {
+            Value::Missing => no_covers(),
+            Value::Is(_) => Covers {
+                left: view::cover_at(l, roots.left, x, f.prefix, above_left, h),
+                right: Cover::Nothing,
+            },
+        },
+        Value::Is(_) => match b {
+            Value::Missing => Covers {
+                left: Cover::Nothing,
+                right: view::cover_at(r, roots.right, y, f.prefix, above_right, h),
+            },
+            Value::Is(_) => no_covers(),
+        },
+    }
+}
+
+// The covers that an item of a list at place h may show: those of a covering union alone.
+fn covers_shown(
+    op: Operation,
+    l: &[u32],
+    r: &[u32],
+    roots: Roots,
+    f: Level,
+    h: u32,
+    a: Value,
+    b: Value,
+) -> Covers
+    requires { ⌜ Entering (jobOf op (now l) (now r) roots) (f .prefix) (f .left) (f .right) × (0 < h) × (h < 64) ⌝ }
+    ensures { λ c. ⌜ c ≡ needed op a b (coversAt (jobOf op (now (l .entry)) (now (r .entry)) roots) f (placeLen h) (placeValue h)) ⌝ }
+{
+    match op {
+        Operation::Union => no_covers(),
+        Operation::Intersection => no_covers(),
+        Operation::Difference => no_covers(),
+        Operation::CoveringDifference => no_covers(),
+        Operation::CoveringUnion => cover_shown(l, r, roots, f, h, a, b),
+    }
+}
+
 // What a data place of prefix q gives to a list, by the values there and the covers above it.
 fn item(op: Operation, q: Prefix, a: Value, b: Value, c: Covers) -> Emit
     ensures { λ e. ⌜ e ≡ emitOf op q a b (c .left) (c .right) ⌝ }
@@ -146,7 +198,7 @@ fn data_step(op: Operation, l: &[u32], r: &[u32], roots: Roots, f: Level, h: u32
     let q = bits::place_prefix(f.prefix, h);
     let a = view::value_at(l, roots.left, left, h, q);
     let b = view::value_at(r, roots.right, right, h, q);
-    let c = covers_for(op, l, r, roots, f, h);
+    let c = covers_shown(op, l, r, roots, f, h, a, b);
     match item(op, q, a, b, c) {
         Emit::Nothing => Step::Skip(f),
         Emit::One(i) => Step::Record(i, f),

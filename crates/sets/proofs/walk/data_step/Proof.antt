@@ -7,7 +7,7 @@ use Rattle.sets.proofs.walk.data_step.Tie as tie
 use Rattle.sets.proofs.walk.data_step.Reads as reads
 use Rattle.sets.proofs.walk.data_step.Lts as lts
 use Rattle.bits.proofs.place_prefix.Reads as place-prefix-reads
-use Rattle.sets.proofs.walk.covers_for.Reads as covers-for-reads
+use Rattle.sets.proofs.walk.covers_shown.Reads as covers-shown-reads
 use Rattle.sets.proofs.walk.item.Reads as item-reads
 use Rattle.view.proofs.value_at.Reads as value-at-reads
 
@@ -24,8 +24,8 @@ value-at-requires-2 : tie.Need-value-at-requires-2
 value-at-requires-2 c κs = search needs
 
 -- src/walk.rt:125:9
-covers-for-requires : tie.Need-covers-for-requires
-covers-for-requires c κs = search needs
+covers-shown-requires : tie.Need-covers-shown-requires
+covers-shown-requires c κs = search needs
 
 -- src/walk.rt:126:11
 item-requires : tie.Need-item-requires
@@ -41,11 +41,11 @@ enum-known-i c = search needs
 
 -- src/walk.rt:116:1
 returns : tie.Need-returns
-returns c = moves.data-none (jobOf (c .before .before .before .before .before .before .before .before .before .args .op) (c .before .before .before .before .before .before .before .before .before .args .l .now) (c .before .before .before .before .before .before .before .before .before .args .r .now) (c .before .before .before .before .before .before .before .before .before .args .roots)) (c .before .before .before .before .before .before .before .before .before .args .f) (c .before .before .before .before .before .before .before .before .before .pre .0) (omega (arith, c .before .before .before .before .before .before .before .before .before .good .1 .1 .1 .1 .0)) (c .before .before .before .before .before .before .before .before .before .args .h) (c .before .before .before .before .before .before .before .before .before .pre .1) (c .before .before .before .before .before .before .before .before .before .pre .2) _ (c .before .before .before .before .before .before .place-prefix .ensures) _ _ (c .before .before .before .before .before .value-at .ensures) (c .before .before .before .before .value-at2 .ensures) _ (c .before .before .before .covers-for .ensures) _ (c .before .before .item .ensures) (c .enum-told .given .1)
+returns c = moves.data-none (jobOf (c .before .before .before .before .before .before .before .before .before .args .op) (c .before .before .before .before .before .before .before .before .before .args .l .now) (c .before .before .before .before .before .before .before .before .before .args .r .now) (c .before .before .before .before .before .before .before .before .before .args .roots)) (c .before .before .before .before .before .before .before .before .before .args .f) (c .before .before .before .before .before .before .before .before .before .pre .0) (omega (arith, c .before .before .before .before .before .before .before .before .before .good .1 .1 .1 .1 .0)) (c .before .before .before .before .before .before .before .before .before .args .h) (c .before .before .before .before .before .before .before .before .before .pre .1) (c .before .before .before .before .before .before .before .before .before .pre .2) _ (c .before .before .before .before .before .before .place-prefix .ensures) _ _ (c .before .before .before .before .before .value-at .ensures) (c .before .before .before .before .value-at2 .ensures) _ (c .before .before .before .covers-shown .ensures) _ (c .before .before .item .ensures) (c .enum-told .given .1)
 
 -- src/walk.rt:116:1
 returns-2 : tie.Need-returns-2
-returns-2 c = moves.data-one (jobOf (c .before .before .before .before .before .before .before .before .before .before .args .op) (c .before .before .before .before .before .before .before .before .before .before .args .l .now) (c .before .before .before .before .before .before .before .before .before .before .args .r .now) (c .before .before .before .before .before .before .before .before .before .before .args .roots)) (c .before .before .before .before .before .before .before .before .before .before .args .f) (c .before .before .before .before .before .before .before .before .before .before .pre .0) (omega (arith, c .before .before .before .before .before .before .before .before .before .before .good .1 .1 .1 .1 .0)) (c .before .before .before .before .before .before .before .before .before .before .args .h) (c .before .before .before .before .before .before .before .before .before .before .pre .1) (c .before .before .before .before .before .before .before .before .before .before .pre .2) _ (c .before .before .before .before .before .before .before .place-prefix .ensures) _ _ (c .before .before .before .before .before .before .value-at .ensures) (c .before .before .before .before .before .value-at2 .ensures) _ (c .before .before .before .before .covers-for .ensures) _ (c .before .before .before .item .ensures) _ (c .before .i .given .1)
+returns-2 c = moves.data-one (jobOf (c .before .before .before .before .before .before .before .before .before .before .args .op) (c .before .before .before .before .before .before .before .before .before .before .args .l .now) (c .before .before .before .before .before .before .before .before .before .before .args .r .now) (c .before .before .before .before .before .before .before .before .before .before .args .roots)) (c .before .before .before .before .before .before .before .before .before .before .args .f) (c .before .before .before .before .before .before .before .before .before .before .pre .0) (omega (arith, c .before .before .before .before .before .before .before .before .before .before .good .1 .1 .1 .1 .0)) (c .before .before .before .before .before .before .before .before .before .before .args .h) (c .before .before .before .before .before .before .before .before .before .before .pre .1) (c .before .before .before .before .before .before .before .before .before .before .pre .2) _ (c .before .before .before .before .before .before .before .place-prefix .ensures) _ _ (c .before .before .before .before .before .before .value-at .ensures) (c .before .before .before .before .before .value-at2 .ensures) _ (c .before .before .before .before .covers-shown .ensures) _ (c .before .before .before .item .ensures) _ (c .before .i .given .1)
 
 pub data-step-spec : {M : Type 1} → statement M
 data-step-spec =
@@ -54,7 +54,7 @@ data-step-spec =
     place-prefix-requires
     value-at-requires
     value-at-requires-2
-    covers-for-requires
+    covers-shown-requires
     item-requires
     enum-told
     enum-known-i
