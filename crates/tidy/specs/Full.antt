@@ -4,10 +4,10 @@ use mathlib.Core.Bool.{Bool, true, false, not, _&&_}
 use mathlib.Core.List.{List}
 use Prim.Native.Nat.{ℕ, zero, suc, _+_, _-_, _*_, _/_, _%_, _^_, _≤_, _<_}
 use native.Mathlib.Omega.{arith}
-use native.Mathlib.Nat.{lt-of-lt-of-le, mul-add-mod-self-right, mod-lt}
+use native.Mathlib.Nat.{lt-of-lt-of-le, mod-lt}
 use native.Mathlib.Decide.{le-ind}
 use lib.Dec.{eqb, leb}
-use lib.Pow.{pow-pos, pow-mono}
+use lib.Pow.{pow-mono}
 use lib.Count.{onesIn, trailingZeros}
 use borrow.Author.Tests.{leb-true, leb-false, eqb-true, eqb-false, eq-eqb, ne-eqb}
 use Rattle.defs.specs.Basics.{upTo}

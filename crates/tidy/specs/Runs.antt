@@ -1,7 +1,7 @@
 -- The nodes that lie on one path with a root, depth by depth. Those of one depth stand one after the other, so that two numbers say which they are,
 -- and the two of the next depth are found from them at once.
 use mathlib.Core.Path.{_≡_, refl, sym, ap, ap₂, _∙_, subst}
-use mathlib.Core.Bool.{Bool, true, false, not, _&&_, _||_, or-true}
+use mathlib.Core.Bool.{true, false, or-true}
 use mathlib.Core.Logic.{⊎-elim}
 use mathlib.Core.List.{List}
 use Prim.Native.Nat.{ℕ, zero, suc, _+_, _-_, _*_, _/_, _%_, _^_, _≤_, _<_}
@@ -289,7 +289,7 @@ module _ (w : List ℕ) (s : Sane w) where
   zero-depth zero d e = absurd (let z : ⊥ = omega (arith, s .formed .root) in z)
   zero-depth (suc j) d e = omega arith
 
-  module _ (root : Prefix) (long : root .len ≤ 64) where
+  module _ (root : Prefix) where
     up-path : (j : ℕ) (u : Up j) → onPath root (prefixAt w j) ≡ true → onPath root (prefixAt w (u .node)) ≡ true
     up-path j u h = path-up root (prefixAt w (u .node)) (u .whole) (u .place) (u .small) (omega (arith, u .len, u .short)) (ap (onPath root) (sym (u .prefix)) ∙ h)
 
@@ -534,19 +534,19 @@ module _ (w : List ℕ) (root : Prefix) (r : Run) (a : Above w root r) where
   pub next-run-is : (r .depth < root .len → r .from ≡ r .to) → (q : Run) → q ≡ belowRun w r → Standing w root q (r .to) × (r .to < q .to)
   next-run-is narrow q e =
       subst (λ (y : Run). Standing w root y (r .to) × (r .to < y .to)) (sym e)
-      (below-run-stands w (a .sane) root (a .long) r (a .more) (a .standing) narrow, a .sane .formed .node (r .to) (a .more) .later)
+      (below-run-stands w (a .sane) root r (a .more) (a .standing) narrow, a .sane .formed .node (r .to) (a .more) .later)
 
   module _ (single : r .from < r .to) (above : r .depth < root .len) (low high : ℕ) (ahead : Ahead root (r .depth) low high) (x f y z : ℕ)
       (ex : x ≡ childOf w (r .from)) (ef : f ≡ firstChild w (r .from)) (ey : y ≡ rank low x) (ez : z ≡ rank high x) where
     -- the children of the node on the way to the root, or none
     pub next-node-is : (f + y ≡ f + z → ⊥) → Standing w root (record { depth = r .depth + 5; from = f + y; to = f + z }) (r .to) × (r .to < f + z)
     next-node-is =
-        below-node-stands w (a .sane) root (a .long) r (a .more) (a .standing) single above low high ahead (f + y) (f + z)
+        below-node-stands w (a .sane) root r (a .more) (a .standing) single above low high ahead (f + y) (f + z)
         (kid-sum w (r .from) low f x y ef ex ey) (kid-sum w (r .from) high f x z ef ex ez)
 
     pub next-none-is : f + y ≡ f + z → (e : ℕ) → e ≡ firstChild w (r .to) → Standing w root (record { depth = r .depth + 5; from = e; to = e }) (r .to) × (r .to < e)
     next-none-is =
-        below-none-stands w (a .sane) root (a .long) r (a .more) (a .standing) single above low high ahead (f + y) (f + z)
+        below-none-stands w (a .sane) root r (a .more) (a .standing) single above low high ahead (f + y) (f + z)
         (kid-sum w (r .from) low f x y ef ex ey) (kid-sum w (r .from) high f x z ef ex ez)
 
 module _ (w : List ℕ) (root : Prefix) (r : Run) (i : ℕ) (s : Sane w) (long : root .len ≤ 64) (h : i < nodeCount w) (t : Standing w root r i) where
@@ -565,16 +565,16 @@ module _ (w : List ℕ) (root : Prefix) (r : Run) (i : ℕ) (s : Sane w) (long :
 
   module _ (l : i < r .to) where
     pub node-before : i < r .from → _≡_ {A = Bitmaps} (record { «data» = 0; child = 0 }) (nodeOn w root i)
-    node-before b = let o = before-off w s root long r i h l t b in node-off w root i (prefixAt w i) here-at (o .0) (o .1)
+    node-before b = let o = before-off w s root r i h l t b in node-off w root i (prefixAt w i) here-at (o .0) (o .1)
 
     module _ (in-run : r .from ≤ i) where
       pub node-on-way : r .depth < root .len → (p : Prefix) → p ≡ cutTo root (r .depth) → Here w root i p
-      node-on-way n p e = record { sane = s; long = long; inside = h; prefix = e ∙ run-prefix w s root long r i h l t in-run n }
+      node-on-way n p e = record { sane = s; long = long; inside = h; prefix = e ∙ run-prefix w s root r i h l t in-run n }
 
       pub run-levels : r .depth / 5 ≤ 12
-      run-levels = omega (arith, run-len w s root long r i h l t in-run, here-short w root i (prefixAt w i) here-at)
+      run-levels = omega (arith, run-len w s root r i h l t in-run, here-short w root i (prefixAt w i) here-at)
 
       pub node-in-view : root .len ≤ r .depth → (d k : ℕ) → d ≡ dataOf w i → k ≡ fullKids w (12 - r .depth / 5) i → _≡_ {A = Bitmaps} (record { «data» = d; child = k }) (nodeOn w root i)
       node-in-view n d k ed ek =
-          node-under w root i (prefixAt w i) here-at (run-led w s root long r i h l t in-run n) d k (12 - r .depth / 5) ed
-          (ap (λ (m : ℕ). 12 - m / 5) (sym (run-len w s root long r i h l t in-run))) ek
+          node-under w root i (prefixAt w i) here-at (run-led w s root r i h l t in-run n) d k (12 - r .depth / 5) ed
+          (ap (λ (m : ℕ). 12 - m / 5) (sym (run-len w s root r i h l t in-run))) ek

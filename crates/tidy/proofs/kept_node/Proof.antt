@@ -1,6 +1,5 @@
 -- `tidy::kept_node` meets its contract. By where the node stands: before the run, on the way to the root, or under it.
 use Rattle.tidy.specs.Runs as runs
-use native.Mathlib.Omega.{arith}
 use borrow.Author.Needs.{needs}
 use Rattle.tidy.proofs.kept_node.Statement.{statement}
 use Rattle.tidy.proofs.kept_node.Tie as tie

@@ -20,7 +20,7 @@ abbrev μ-loop : tie.MeasureT-loop
 μ-loop words root n nodes₀ entries₀ run₀ i₀ nodes entries run i = n - i
 
 loop-holds : tie.Need-loop-holds Inv-loop μ-loop
-loop-holds c = (chosen.counting-start (kept.dataOn (c .before .args .words .now) (c .before .args .root)) (kept.kidsOn (c .before .args .words .now) (c .before .args .root)) _, runs.standing-start (c .before .args .words .now) (c .before .pre .0) (c .before .args .root) (c .before .pre .1) (omega arith))
+loop-holds c = (chosen.counting-start (kept.dataOn (c .before .args .words .now) (c .before .args .root)) (kept.kidsOn (c .before .args .words .now) (c .before .args .root)) _, runs.standing-start (c .before .args .words .now) (c .before .pre .0) (c .before .args .root) (omega arith))
 
 cast-run-at : tie.Need-cast-run-at Inv-loop μ-loop
 cast-run-at c = omega (arith, c .loop-test .taken, nodes-few (c .before .before .before .args .words .now) (c .before .before .before .pre .0))
@@ -53,7 +53,7 @@ loop-less : tie.Need-loop-less Inv-loop μ-loop
 loop-less c = omega arith
 
 loop-again : tie.Need-loop-again Inv-loop μ-loop
-loop-again c = (chosen.counting-on (kept.dataOn (c .before .before .before .before .before .before .before .before .args .words .now) (c .before .before .before .before .before .before .before .before .args .root)) (kept.kidsOn (c .before .before .before .before .before .before .before .before .args .words .now) (c .before .before .before .before .before .before .before .before .args .root)) _ _ _ _ (c .before .before .before .before .before .loop-test .taken) (c .before .before .before .before .before .before .loop .inv .0) (call.kept-says (c .before .before .before .before .before .before .before .before .args .words .now) (c .before .before .before .before .before .before .before .before .args .root) (c .before .before .before .before .before .before .before .before .pre .0) _ _ (c .before .before .before .kept-node .ensures) _ (c .before .before .is-kept .ensures) ∙ c .before .if1 .taken) _ (c .ones .ensures ∙ ap (λ (x : Bitmaps). ones (x .data)) (c .before .before .before .kept-node .ensures)), runs.standing-on (c .before .before .before .before .before .before .before .before .args .words .now) (c .before .before .before .before .before .before .before .before .pre .0) (c .before .before .before .before .before .before .before .before .args .root) (c .before .before .before .before .before .before .before .before .pre .1) _ _ (c .before .before .before .before .run-at .ensures .0) (c .before .before .before .before .run-at .ensures .1))
+loop-again c = (chosen.counting-on (kept.dataOn (c .before .before .before .before .before .before .before .before .args .words .now) (c .before .before .before .before .before .before .before .before .args .root)) (kept.kidsOn (c .before .before .before .before .before .before .before .before .args .words .now) (c .before .before .before .before .before .before .before .before .args .root)) _ _ _ _ (c .before .before .before .before .before .loop-test .taken) (c .before .before .before .before .before .before .loop .inv .0) (call.kept-says (c .before .before .before .before .before .before .before .before .args .words .now) (c .before .before .before .before .before .before .before .before .args .root) (c .before .before .before .before .before .before .before .before .pre .0) _ _ (c .before .before .before .kept-node .ensures) _ (c .before .before .is-kept .ensures) ∙ c .before .if1 .taken) _ (c .ones .ensures ∙ ap (λ (x : Bitmaps). ones (x .data)) (c .before .before .before .kept-node .ensures)), runs.standing-on (c .before .before .before .before .before .before .before .before .args .words .now) (c .before .before .before .before .before .before .before .before .pre .0) (c .before .before .before .before .before .before .before .before .args .root) _ _ (c .before .before .before .before .run-at .ensures .0) (c .before .before .before .before .run-at .ensures .1))
 
 add-i-2 : tie.Need-add-i-2 Inv-loop μ-loop
 add-i-2 c = omega arith
@@ -62,7 +62,7 @@ loop-less-2 : tie.Need-loop-less-2 Inv-loop μ-loop
 loop-less-2 c = omega arith
 
 loop-again-2 : tie.Need-loop-again-2 Inv-loop μ-loop
-loop-again-2 c = (chosen.counting-off (kept.dataOn (c .before .before .before .before .before .before .before .args .words .now) (c .before .before .before .before .before .before .before .args .root)) (kept.kidsOn (c .before .before .before .before .before .before .before .args .words .now) (c .before .before .before .before .before .before .before .args .root)) _ _ _ _ (c .before .before .before .before .loop-test .taken) (c .before .before .before .before .before .loop .inv .0) (call.kept-says (c .before .before .before .before .before .before .before .args .words .now) (c .before .before .before .before .before .before .before .args .root) (c .before .before .before .before .before .before .before .pre .0) _ _ (c .before .before .kept-node .ensures) _ (c .before .is-kept .ensures) ∙ c .if1 .left), runs.standing-on (c .before .before .before .before .before .before .before .args .words .now) (c .before .before .before .before .before .before .before .pre .0) (c .before .before .before .before .before .before .before .args .root) (c .before .before .before .before .before .before .before .pre .1) _ _ (c .before .before .before .run-at .ensures .0) (c .before .before .before .run-at .ensures .1))
+loop-again-2 c = (chosen.counting-off (kept.dataOn (c .before .before .before .before .before .before .before .args .words .now) (c .before .before .before .before .before .before .before .args .root)) (kept.kidsOn (c .before .before .before .before .before .before .before .args .words .now) (c .before .before .before .before .before .before .before .args .root)) _ _ _ _ (c .before .before .before .before .loop-test .taken) (c .before .before .before .before .before .loop .inv .0) (call.kept-says (c .before .before .before .before .before .before .before .args .words .now) (c .before .before .before .before .before .before .before .args .root) (c .before .before .before .before .before .before .before .pre .0) _ _ (c .before .before .kept-node .ensures) _ (c .before .is-kept .ensures) ∙ c .if1 .left), runs.standing-on (c .before .before .before .before .before .before .before .args .words .now) (c .before .before .before .before .before .before .before .pre .0) (c .before .before .before .before .before .before .before .args .root) _ _ (c .before .before .before .run-at .ensures .0) (c .before .before .before .run-at .ensures .1))
 
 returns : tie.Need-returns Inv-loop μ-loop
 returns c = call.measured (c .before .before .before .args .words .now) (c .before .before .before .args .root) (c .before .before .before .pre .0) _ _ _ (omega (arith, c .loop-test .left)) (c .before .loop .inv .0)

@@ -21,7 +21,7 @@ abbrev μ-loop : tie.MeasureT-loop
 μ-loop words root out₀ values₀ n at₀ children₀ count₀ run₀ i₀ out values at children count run i = n - i
 
 loop-holds : tie.Need-loop-holds Inv-loop μ-loop
-loop-holds c = (chosen.writing-start (kept.dataOn (c .before .before .before .args .words .now) (c .before .before .before .args .root)) (kept.kidsOn (c .before .before .before .args .words .now) (c .before .before .before .args .root)) (call.valuesOn (c .before .before .before .args .words .now) (c .before .before .before .args .root)) _ _ _, runs.standing-start (c .before .before .before .args .words .now) (c .before .before .before .pre .0 .0) (c .before .before .before .args .root) (c .before .before .before .pre .0 .1) (omega arith))
+loop-holds c = (chosen.writing-start (kept.dataOn (c .before .before .before .args .words .now) (c .before .before .before .args .root)) (kept.kidsOn (c .before .before .before .args .words .now) (c .before .before .before .args .root)) (call.valuesOn (c .before .before .before .args .words .now) (c .before .before .before .args .root)) _ _ _, runs.standing-start (c .before .before .before .args .words .now) (c .before .before .before .pre .0 .0) (c .before .before .before .args .root) (omega arith))
 
 cast-run-at : tie.Need-cast-run-at Inv-loop μ-loop
 cast-run-at c = omega (arith, c .loop-test .taken, nodes-few (c .before .before .before .before .before .args .words .now) (c .before .before .before .before .before .pre .0 .0))
@@ -102,7 +102,7 @@ loop-less : tie.Need-loop-less Inv-loop μ-loop
 loop-less c = omega (arith, c .before .before .before .before .before .before .before .before .before .before .before .before .before .before .before .before .loop-test .taken)
 
 loop-again : tie.Need-loop-again Inv-loop μ-loop
-loop-again c = (call.copy-on (c .before .before .before .before .before .before .before .before .before .before .before .before .before .before .before .before .before .before .before .before .before .args .words .now) (c .before .before .before .before .before .before .before .before .before .before .before .before .before .before .before .before .before .before .before .before .before .args .root) (c .before .before .before .before .before .before .before .before .before .before .before .before .before .before .before .before .before .before .before .before .before .pre .0 .0) (c .before .before .before .before .before .before .before .before .before .before .before .before .before .before .before .before .before .before .before .before .before .args .out .now) (c .before .before .before .before .before .before .before .before .before .before .before .before .before .before .before .before .before .before .before .before .before .args .values .now) (c .before .before .before .before .before .before .before .before .before .before .before .before .before .before .before .before .before .before .before .before .before .pre .1) _ _ _ _ _ _ (c .before .before .before .before .before .before .before .before .before .before .before .before .before .before .before .before .loop-test .taken) (c .before .before .before .before .before .before .before .before .before .before .before .before .before .before .before .before .before .loop .inv .0) (call.kept-says (c .before .before .before .before .before .before .before .before .before .before .before .before .before .before .before .before .before .before .before .before .before .args .words .now) (c .before .before .before .before .before .before .before .before .before .before .before .before .before .before .before .before .before .before .before .before .before .args .root) (c .before .before .before .before .before .before .before .before .before .before .before .before .before .before .before .before .before .before .before .before .before .pre .0 .0) _ _ (c .before .before .before .before .before .before .before .before .before .before .before .before .before .before .kept-node .ensures) _ (c .before .before .before .before .before .before .before .before .before .before .before .before .before .is-kept .ensures) ∙ c .before .before .before .before .before .before .before .before .before .before .before .before .if1 .taken) _ (c .before .before .before .before .before .before .before .before .before .before .before .before .before .before .kept-node .ensures) _ _ (c .before .before .before .before .before .before .before .data-bits .ensures) (c .before .before .before .before .before .before .first-value .ensures) _ _ (c .before .before .before .before .before .before .before .before .before .before .put-node .ensures) (c .before .before .before .before .put-values .ensures) _ _ (c .before .ones .ensures) (c .ones2 .ensures), runs.standing-on (c .before .before .before .before .before .before .before .before .before .before .before .before .before .before .before .before .before .before .before .before .before .args .words .now) (c .before .before .before .before .before .before .before .before .before .before .before .before .before .before .before .before .before .before .before .before .before .pre .0 .0) (c .before .before .before .before .before .before .before .before .before .before .before .before .before .before .before .before .before .before .before .before .before .args .root) (c .before .before .before .before .before .before .before .before .before .before .before .before .before .before .before .before .before .before .before .before .before .pre .0 .1) _ _ (c .before .before .before .before .before .before .before .before .before .before .before .before .before .before .before .run-at .ensures .0) (c .before .before .before .before .before .before .before .before .before .before .before .before .before .before .before .run-at .ensures .1))
+loop-again c = (call.copy-on (c .before .before .before .before .before .before .before .before .before .before .before .before .before .before .before .before .before .before .before .before .before .args .words .now) (c .before .before .before .before .before .before .before .before .before .before .before .before .before .before .before .before .before .before .before .before .before .args .root) (c .before .before .before .before .before .before .before .before .before .before .before .before .before .before .before .before .before .before .before .before .before .pre .0 .0) (c .before .before .before .before .before .before .before .before .before .before .before .before .before .before .before .before .before .before .before .before .before .args .out .now) (c .before .before .before .before .before .before .before .before .before .before .before .before .before .before .before .before .before .before .before .before .before .args .values .now) (c .before .before .before .before .before .before .before .before .before .before .before .before .before .before .before .before .before .before .before .before .before .pre .1) _ _ _ _ _ _ (c .before .before .before .before .before .before .before .before .before .before .before .before .before .before .before .before .loop-test .taken) (c .before .before .before .before .before .before .before .before .before .before .before .before .before .before .before .before .before .loop .inv .0) (call.kept-says (c .before .before .before .before .before .before .before .before .before .before .before .before .before .before .before .before .before .before .before .before .before .args .words .now) (c .before .before .before .before .before .before .before .before .before .before .before .before .before .before .before .before .before .before .before .before .before .args .root) (c .before .before .before .before .before .before .before .before .before .before .before .before .before .before .before .before .before .before .before .before .before .pre .0 .0) _ _ (c .before .before .before .before .before .before .before .before .before .before .before .before .before .before .kept-node .ensures) _ (c .before .before .before .before .before .before .before .before .before .before .before .before .before .is-kept .ensures) ∙ c .before .before .before .before .before .before .before .before .before .before .before .before .if1 .taken) _ (c .before .before .before .before .before .before .before .before .before .before .before .before .before .before .kept-node .ensures) _ _ (c .before .before .before .before .before .before .before .data-bits .ensures) (c .before .before .before .before .before .before .first-value .ensures) _ _ (c .before .before .before .before .before .before .before .before .before .before .put-node .ensures) (c .before .before .before .before .put-values .ensures) _ _ (c .before .ones .ensures) (c .ones2 .ensures), runs.standing-on (c .before .before .before .before .before .before .before .before .before .before .before .before .before .before .before .before .before .before .before .before .before .args .words .now) (c .before .before .before .before .before .before .before .before .before .before .before .before .before .before .before .before .before .before .before .before .before .pre .0 .0) (c .before .before .before .before .before .before .before .before .before .before .before .before .before .before .before .before .before .before .before .before .before .args .root) _ _ (c .before .before .before .before .before .before .before .before .before .before .before .before .before .before .before .run-at .ensures .0) (c .before .before .before .before .before .before .before .before .before .before .before .before .before .before .before .run-at .ensures .1))
 
 add-i-2 : tie.Need-add-i-2 Inv-loop μ-loop
 add-i-2 c = omega arith
@@ -111,7 +111,7 @@ loop-less-2 : tie.Need-loop-less-2 Inv-loop μ-loop
 loop-less-2 c = omega (arith, c .before .before .before .before .loop-test .taken)
 
 loop-again-2 : tie.Need-loop-again-2 Inv-loop μ-loop
-loop-again-2 c = (call.copy-off (c .before .before .before .before .before .before .before .before .before .args .words .now) (c .before .before .before .before .before .before .before .before .before .args .root) (c .before .before .before .before .before .before .before .before .before .pre .0 .0) (c .before .before .before .before .before .before .before .before .before .args .out .now) (c .before .before .before .before .before .before .before .before .before .args .values .now) (c .before .before .before .before .before .before .before .before .before .pre .1) _ _ _ _ _ _ (c .before .before .before .before .loop-test .taken) (c .before .before .before .before .before .loop .inv .0) (call.kept-says (c .before .before .before .before .before .before .before .before .before .args .words .now) (c .before .before .before .before .before .before .before .before .before .args .root) (c .before .before .before .before .before .before .before .before .before .pre .0 .0) _ _ (c .before .before .kept-node .ensures) _ (c .before .is-kept .ensures) ∙ c .if1 .left), runs.standing-on (c .before .before .before .before .before .before .before .before .before .args .words .now) (c .before .before .before .before .before .before .before .before .before .pre .0 .0) (c .before .before .before .before .before .before .before .before .before .args .root) (c .before .before .before .before .before .before .before .before .before .pre .0 .1) _ _ (c .before .before .before .run-at .ensures .0) (c .before .before .before .run-at .ensures .1))
+loop-again-2 c = (call.copy-off (c .before .before .before .before .before .before .before .before .before .args .words .now) (c .before .before .before .before .before .before .before .before .before .args .root) (c .before .before .before .before .before .before .before .before .before .pre .0 .0) (c .before .before .before .before .before .before .before .before .before .args .out .now) (c .before .before .before .before .before .before .before .before .before .args .values .now) (c .before .before .before .before .before .before .before .before .before .pre .1) _ _ _ _ _ _ (c .before .before .before .before .loop-test .taken) (c .before .before .before .before .before .loop .inv .0) (call.kept-says (c .before .before .before .before .before .before .before .before .before .args .words .now) (c .before .before .before .before .before .before .before .before .before .args .root) (c .before .before .before .before .before .before .before .before .before .pre .0 .0) _ _ (c .before .before .kept-node .ensures) _ (c .before .is-kept .ensures) ∙ c .if1 .left), runs.standing-on (c .before .before .before .before .before .before .before .before .before .args .words .now) (c .before .before .before .before .before .before .before .before .before .pre .0 .0) (c .before .before .before .before .before .before .before .before .before .args .root) _ _ (c .before .before .before .run-at .ensures .0) (c .before .before .before .run-at .ensures .1))
 
 same-length : tie.Need-same-length Inv-loop μ-loop
 same-length c = call.copy-same (c .before .before .before .before .before .args .words .now) (c .before .before .before .before .before .args .root) (c .before .before .before .before .before .pre .0 .0) (c .before .before .before .before .before .args .out .now) (c .before .before .before .before .before .args .values .now) (c .before .before .before .before .before .pre .1) _ _ _ _ _ _ (c .before .loop .inv .0) .0
