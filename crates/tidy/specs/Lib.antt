@@ -1,3 +1,5 @@
+-- Whether anything lies in a node or below it, level by level.
+pub mod Blank
 -- The children of a node that hold something.
 pub mod Full
 -- What the tidy pool keeps of a node, by its prefix.

@@ -11,6 +11,7 @@ ghost use Rattle.defs.specs.Tidy.{isUnder, nodesOf, tidyPool, tidyValues};
 ghost use Rattle.defs.specs.Outcome.{firstOf, tidyOutcome};
 ghost use Rattle.view.specs.Standing.{Sane};
 ghost use Rattle.view.specs.Emptiness.{emptyAt};
+ghost use Rattle.tidy.specs.Blank.{blankRun, kidsFrom};
 ghost use Rattle.tidy.specs.Full.{fullKids};
 ghost use Rattle.tidy.specs.Runs.{Standing, Above, Ahead, belowRun};
 ghost use Rattle.tidy.specs.Kept.{Here, kidsOn, nodeOn};
@@ -20,6 +21,54 @@ use defs::Answer;
 use defs::Prefix;
 use theory::Node;
 use view::Bitmaps;
+
+// Where the children of node i start. After the last node that is the number of nodes.
+fn kids_from(words: &[u32], i: u32) -> u32
+    requires { ⌜ Sane (now words) × (i ≤ nodeCount (now words)) ⌝ }
+    ensures { λ r. ⌜ r ≡ kidsFrom (now (words .entry)) i ⌝ }
+{
+    if i as usize == words.len() / 4 {
+        return i;
+    }
+    pool::first_child(words, i as usize)
+}
+
+// No node from `from` on and before `to` has a value.
+fn is_blank(words: &[u32], from: u32, to: u32) -> bool
+    requires { ⌜ to ≤ nodeCount (now words) ⌝ }
+    ensures { λ r. ⌜ r ≡ blankRun (now (words .entry)) from to ⌝ }
+{
+    let mut i = from;
+    while i < to {
+        if pool::data_bits(words, i as usize) != 0 {
+            return false;
+        }
+        i += 1;
+    }
+    true
+}
+
+// A node has an entry in it or below it, so many levels deep. It is asked level by level: on each, the nodes below it stand one after the other.
+fn is_full(words: &[u32], node: u32, levels: u32) -> bool
+    requires { ⌜ Sane (now words) × (node < nodeCount (now words)) ⌝ }
+    ensures { λ r. ⌜ r ≡ not (emptyAt (now (words .entry)) levels node) ⌝ }
+{
+    let mut from = node;
+    let mut to = node + 1;
+    let mut left = levels;
+    while from < to {
+        if left == 0 {
+            return false;
+        }
+        if !is_blank(words, from, to) {
+            return true;
+        }
+        from = kids_from(words, from);
+        to = kids_from(words, to);
+        left -= 1;
+    }
+    false
+}
 
 // Child c of a node of prefix p has an entry of the view in it or below it. Inside the view the child is asked; on the way to the root, the
 // whole view is.
@@ -34,7 +83,7 @@ fn kid_is_used(words: &[u32], root: Prefix, i: u32, p: Prefix, c: u32) -> bool
     let q = bits::place_prefix(p, 32 + c);
     if bits::leads(root, q) {
         let k = pool::first_child(words, i as usize) + bits::rank(child, c);
-        return !view::is_empty(words, k, 12 - p.len / 5);
+        return is_full(words, k, 12 - p.len / 5);
     }
     if bits::leads(q, root) {
         return !view::view_is_empty(words, root);
@@ -54,20 +103,6 @@ fn used_kids(words: &[u32], root: Prefix, i: u32, p: Prefix) -> u32
         c += 1;
     }
     word
-}
-
-// A node has an entry in it or below it, so many levels deep. One that has a value answers at once.
-fn is_full(words: &[u32], node: u32, levels: u32) -> bool
-    requires { ⌜ Sane (now words) × (node < nodeCount (now words)) ⌝ }
-    ensures { λ r. ⌜ r ≡ not (emptyAt (now (words .entry)) levels node) ⌝ }
-{
-    if levels == 0 {
-        return false;
-    }
-    if pool::data_bits(words, node as usize) != 0 {
-        return true;
-    }
-    !view::is_empty(words, node, levels)
 }
 
 // The children of node i that have an entry in them or below them. Only children that there are cost a turn: they are nodes one after the other.
