@@ -1,5 +1,5 @@
 # What one does with this repository. 'make help' lists it.
-.PHONY: help run test prove vectors clean
+.PHONY: help run test prove vectors compare clean
 
 help: ## this list
 	@grep -hE '^[a-z]+:.*## ' $(MAKEFILE_LIST) | sed -E 's/:.*## /	/' | expand -t 12
@@ -24,6 +24,12 @@ vectors: ## make the stored vectors anew from the Rust reference
 	@cargo run --offline --release --quiet --manifest-path rust/Cargo.toml -p reference --bin make-vectors > build/vectors.txt
 	@mv build/vectors.txt vectors/cases.txt
 	@git diff --stat -- vectors/cases.txt
+
+COUNT ?= 1000000
+SEED ?= 1
+compare: ## compare the built library and program with the reference on COUNT random cases of SEED
+	@cargo build --offline --release --quiet --manifest-path rust/Cargo.toml -p compare
+	@rust/target/release/compare $(COUNT) $(SEED)
 
 clean: ## remove what was built
 	rm -rf target build rust/target
