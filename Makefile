@@ -1,5 +1,5 @@
 # What one does with this repository. 'make help' lists it.
-.PHONY: help run test prove vectors compare clean
+.PHONY: help run test prove vectors compare published clean
 
 help: ## this list
 	@grep -hE '^[a-z]+:.*## ' $(MAKEFILE_LIST) | sed -E 's/:.*## /	/' | expand -t 12
@@ -30,6 +30,10 @@ SEED ?= 1
 compare: ## compare the built library and program with the reference on COUNT random cases of SEED
 	@cargo build --offline --release --quiet --manifest-path rust/Cargo.toml -p compare
 	@rust/target/release/compare $(COUNT) $(SEED)
+
+published: ## compare the published set views, if they are beside the project, with the built library on COUNT random cases of SEED at each width
+	@cargo build --offline --release --quiet --manifest-path rust/Cargo.toml -p published
+	@rust/target/release/published $(COUNT) $(SEED)
 
 clean: ## remove what was built
 	rm -rf target build rust/target
