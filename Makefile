@@ -1,5 +1,5 @@
 # What one does with this repository. 'make help' lists it.
-.PHONY: help run test prove vectors compare published clean
+.PHONY: help run test prove lib bench compare published vectors clean
 
 help: ## this list
 	@grep -hE '^[a-z]+:.*## ' $(MAKEFILE_LIST) | sed -E 's/:.*## /	/' | expand -t 12
@@ -18,12 +18,14 @@ prove: ## prove what changed since the last run; quick, and not the verdict
 	@tests/tools
 	@rt check
 
-vectors: ## make the stored vectors anew from the Rust reference
+lib: ## prove and build the static library for C and Rust, target/staticlib/liblhamtrovi.a
 	@tests/tools
 	@mkdir -p build
-	@cargo run --offline --release --quiet --manifest-path rust/Cargo.toml -p reference --bin make-vectors > build/vectors.txt
-	@mv build/vectors.txt vectors/cases.txt
-	@git diff --stat -- vectors/cases.txt
+	@rt staticlib lhamtrovi > build/rt-staticlib.log 2>&1 || { tail -n 20 build/rt-staticlib.log; exit 1; }
+	@echo target/staticlib/liblhamtrovi.a
+
+bench: lib ## time the library against ordinary fast Rust; the table goes to docs/BENCHMARKS.md by hand, the plot to docs/benchmarks.svg
+	@cargo run --offline --release --quiet --manifest-path rust/Cargo.toml -p bench -- docs/benchmarks.svg
 
 COUNT ?= 1000000
 SEED ?= 1
@@ -31,9 +33,16 @@ compare: ## compare the built library and program with the reference on COUNT ra
 	@cargo build --offline --release --quiet --manifest-path rust/Cargo.toml -p compare
 	@rust/target/release/compare $(COUNT) $(SEED)
 
-published: ## compare the published set views, if they are beside the project, with the built library on COUNT random cases of SEED at each width
+published: ## compare the published set views, if they are beside the project, with the built library; COUNT cases of SEED at each width
 	@cargo build --offline --release --quiet --manifest-path rust/Cargo.toml -p published
 	@rust/target/release/published $(COUNT) $(SEED)
+
+vectors: ## make the stored vectors anew from the Rust reference
+	@tests/tools
+	@mkdir -p build
+	@cargo run --offline --release --quiet --manifest-path rust/Cargo.toml -p reference --bin make-vectors > build/vectors.txt
+	@mv build/vectors.txt vectors/cases.txt
+	@git diff --stat -- vectors/cases.txt
 
 clean: ## remove what was built
 	rm -rf target build rust/target

@@ -1,6 +1,6 @@
 /*
- * A covering difference from words, and what it leaves: 10.0.0.0/8 and 192.168.0.0/16 are believed, 192.0.0.0/8 and 10.1.0.0/16 are forbidden.
- * Built by `make examples`; prints the networks that stay believed, and then the forbidden ones inside them.
+ * The lists of examples/incident from C: the networks that stay believed, by a covering difference, and then the forbidden ones inside them, by a
+ * covering union.
  */
 #include <inttypes.h>
 #include <stdio.h>
@@ -19,12 +19,20 @@ static int refused(const char *call, lhamtrovi_answer a) {
 }
 
 int main(void) {
-    /* The words come from the converter, rust/cidr. */
+    /* 10.0.0.0/8 and 10.1.2.0/24; the words come from the converter, rust/cidr. */
     static const uint32_t believed[] = {
-BELIEVED
+        0x00000000, 0x00000002, 1, 0,
+        0x00000200, 0x00000100, 2, 0,
+        0x00000000, 0x00000001, 3, 1,
+        0x00000000, 0x00010000, 4, 1,
+        0x00020000, 0x00000000, 5, 1,
     };
+    /* 10.1.0.0/16 */
     static const uint32_t forbidden[] = {
-FORBIDDEN
+        0x00000000, 0x00000002, 1, 0,
+        0x00000000, 0x00000100, 2, 0,
+        0x00000000, 0x00000001, 3, 0,
+        0x00000004, 0x00000000, 4, 0,
     };
     const size_t left = sizeof believed / sizeof *believed, right = sizeof forbidden / sizeof *forbidden;
     uint64_t out[MOST * LHAMTROVI_RECORD_WORDS];

@@ -22,10 +22,10 @@ use Rattle.theory.specs.Todo.{picked-none}
 use Rattle.theory.specs.Start.{start-ok, start-list}
 use Rattle.view.specs.Standing.{Sane, NodeIn}
 use Rattle.view.specs.Descent.{cutTo, nodeDown, whole-cut, cut-top, view-down, node-down-in}
-use Rattle.sets.specs.declared.Roots.{Roots}
+use Rattle.walk.specs.declared.Roots.{Roots}
 use Rattle.sets.specs.declared.Aligned.{Aligned}
 use Rattle.sets.specs.declared.Aligned.the-variants as aligned
-use Rattle.sets.specs.Ready.{jobOf, Entering, Ready}
+use Rattle.walk.specs.Ready.{jobOf, Entering, Ready}
 use Rattle.sets.specs.Aligned.{alignDown, alignedRest, aligns, align-inside, depth-at}
 use Rattle.sets.specs.Listing.{sideOf}
 

@@ -31,9 +31,9 @@ use Rattle.view.specs.Spreads.{belowAll, one, lowly}
 use Rattle.view.specs.Emptiness.{both-true, below-of, below-fails}
 use Rattle.view.specs.Kept.{kept-none}
 use Rattle.view.specs.Descent.{cutTo, nodeDown}
-use Rattle.sets.specs.declared.Roots.{Roots}
-use Rattle.sets.specs.BitLaws.{bit-or}
-use Rattle.sets.specs.Wanted.{eitherOf}
+use Rattle.walk.specs.declared.Roots.{Roots}
+use Rattle.rules.specs.BitLaws.{bit-or}
+use Rattle.rules.specs.Wanted.{eitherOf}
 use Rattle.sets.specs.Listing.{sideOf, Passed, first-stays, first-passes, passed-rows, depth-short, common-entering, common-left, common-right}
 use Rattle.sets.specs.SameKeys.{kept, childOn, equalAt, whole-child, equal-says}
 

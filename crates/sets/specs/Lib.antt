@@ -1,12 +1,3 @@
--- What the walk's functions ask for.
-pub mod Ready
--- Which places a list visits.
-pub mod BitLaws
-pub mod Wanted
-pub mod Maps
--- What the walk's functions work out.
-pub mod Moves
-pub mod Loops
 -- How the right view of a covering difference is aligned.
 pub mod Aligned
 -- A count of records fits.

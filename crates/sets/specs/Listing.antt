@@ -34,11 +34,11 @@ use Rattle.theory.specs.Start.{start-ok, start-list}
 use Rattle.theory.specs.Loop.{recordsWords, words-length}
 use Rattle.view.specs.Standing.{Sane}
 use Rattle.view.specs.Descent.{cutTo, nodeDown, whole-cut, view-down, node-down-in}
-use Rattle.sets.specs.declared.Roots.{Roots}
-use Rattle.sets.specs.Ready.{jobOf, Entering, Ready}
+use Rattle.walk.specs.declared.Roots.{Roots}
+use Rattle.walk.specs.Ready.{jobOf, Entering, Ready}
 use Rattle.sets.specs.Aligned.{depth-at}
 use Rattle.sets.specs.Bound.{mostFrom, valuesOf, list-most, values-fit}
-use Rattle.sets.specs.Loops.{writtenOver}
+use Rattle.walk.specs.Loops.{writtenOver}
 
 -- a side of a call
 abbrev pub sideOf : List ℕ → Prefix → Side

@@ -8,13 +8,12 @@ ghost use Rattle.theory.specs.Steps.{levelRest};
 ghost use Rattle.view.specs.Standing.{Sane};
 ghost use Rattle.sets.specs.Bound.{valuesOf, mostFrom};
 ghost use Rattle.sets.specs.Listing.{Few, sideOf, leaves, roomOutcome};
-ghost use Rattle.sets.specs.Ready.{jobOf, Ready};
-use crate::Roots;
+ghost use Rattle.walk.specs.Ready.{jobOf, Ready};
 use crate::covering_difference;
-use crate::walk;
 use defs::Answer;
 use defs::Operation;
 use theory::Level;
+use walk::Roots;
 
 // The first of the refusals 1 to 5, or 0: both pools before either root.
 pub(crate) fn refusal(width: u32, l: &[u32], r: &[u32], roots: Roots) -> Answer

@@ -9,34 +9,20 @@ ghost use Rattle.theory.specs.Steps.{levelRest};
 ghost use Rattle.theory.specs.Down.{nextBits};
 ghost use Rattle.view.specs.Standing.{Sane};
 ghost use Rattle.view.specs.Descent.{cutTo};
-ghost use Rattle.sets.specs.Wanted.{lessOf};
-ghost use Rattle.sets.specs.Ready.{jobOf, Ready};
+ghost use Rattle.walk.specs.Ready.{jobOf, Ready};
 ghost use Rattle.sets.specs.Listing.{sideOf, leaves};
 ghost use Rattle.sets.specs.Beginning.{emptyLevel};
 ghost use Rattle.sets.specs.Aligned.{nodeAligned, alignStep, alignDown};
 ghost use Rattle.defs.specs.declared.Operation.the-variants.{CoveringDifference};
 use crate::Aligned;
-use crate::Roots;
 use crate::call;
-use crate::walk;
 use defs::Answer;
 use defs::Operation;
 use defs::Prefix;
 use theory::Cover;
 use theory::Level;
 use theory::Node;
-use view::Bitmaps;
-use view::Coverage;
-
-// A place is worth a visit where the left side has its bit and the right side does not cover it.
-pub(crate) fn wanted(l: Bitmaps, covered: Coverage) -> Bitmaps
-    ensures { λ b. ⌜ b ≡ lessOf l covered ⌝ }
-{
-    Bitmaps {
-        data: l.data ^ (l.data & covered.data),
-        child: l.child ^ (l.child & covered.child),
-    }
-}
+use walk::Roots;
 
 // The child place of the path's next 5 bits below depth d.
 fn next_place(path: Prefix, d: u32) -> u32

@@ -3,11 +3,11 @@ ghost use mathlib.Core.Path.{_≡_};
 ghost use Rattle.defs.specs.Outcome.{listOutcome};
 ghost use Rattle.defs.specs.declared.Operation.the-variants.{CoveringUnion};
 ghost use Rattle.sets.specs.Listing.{sideOf, leaves};
-use crate::Roots;
 use crate::call;
 use defs::Answer;
 use defs::Operation;
 use defs::Prefix;
+use walk::Roots;
 
 // The covering union of two views as records, or a refusal.
 pub fn list(

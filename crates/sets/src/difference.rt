@@ -1,43 +1,13 @@
 // Difference: the prefixes of the left side that are not in the right.
 ghost use mathlib.Core.Path.{_≡_};
-ghost use Rattle.theory.specs.Steps.{emitLeft};
 ghost use Rattle.defs.specs.Outcome.{listOutcome};
 ghost use Rattle.defs.specs.declared.Operation.the-variants.{Difference};
 ghost use Rattle.sets.specs.Listing.{sideOf, leaves};
-use crate::Roots;
 use crate::call;
 use defs::Answer;
 use defs::Operation;
 use defs::Prefix;
-use theory::Cover;
-use theory::Emit;
-use theory::Item;
-use theory::Value;
-use view::Bitmaps;
-
-// A place is worth a visit where the left side has its bit.
-pub(crate) fn wanted(l: Bitmaps) -> Bitmaps
-    ensures { λ b. ⌜ b ≡ l ⌝ }
-{
-    l
-}
-
-// The item of a prefix that has a value on the left side alone.
-pub(crate) fn item(q: Prefix, a: Value, b: Value) -> Emit
-    ensures { λ e. ⌜ e ≡ emitLeft q a b ⌝ }
-{
-    match a {
-        Value::Missing => Emit::Nothing,
-        Value::Is(x) => match b {
-            Value::Missing => Emit::One(Item::Left {
-                prefix: q,
-                value: x,
-                cover: Cover::Nothing,
-            }),
-            Value::Is(_) => Emit::Nothing,
-        },
-    }
-}
+use walk::Roots;
 
 // The difference of two views as records, or a refusal.
 pub fn list(

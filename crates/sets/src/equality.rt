@@ -7,12 +7,11 @@ ghost use Rattle.view.specs.Standing.{Sane};
 ghost use Rattle.sets.specs.Listing.{sideOf};
 ghost use Rattle.sets.specs.SameKeys.{equalAt};
 ghost use Rattle.sets.specs.Equality.{Paired, childEqual};
-use crate::Roots;
 use crate::call;
-use crate::union;
 use defs::Answer;
 use defs::Prefix;
 use theory::Node;
+use walk::Roots;
 
 // The children of a pair at place c hold the same prefixes. One that is there and empty is as one that is not there. With no level left below, there is none.
 fn child_equal(
@@ -55,7 +54,7 @@ fn pair_equal(
     if a != b {
         return false;
     }
-    let some = union::wanted(view::bitmaps_at(l, left), view::bitmaps_at(r, right));
+    let some = rules::union::wanted(view::bitmaps_at(l, left), view::bitmaps_at(r, right));
     let mut todo = some.child;
     while todo > 0 {
         let c = u32::trailing_zeros(todo);

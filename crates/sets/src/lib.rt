@@ -5,17 +5,7 @@ pub mod covering_union;
 pub mod difference;
 pub mod equality;
 pub mod intersection;
-mod record;
 pub mod union;
-mod walk;
-
-use defs::Prefix;
-
-// The two roots of a call.
-pub struct Roots {
-    pub left: Prefix,
-    pub right: Prefix,
-}
 
 // What aligning the right view finds on the way to the left root.
 pub enum Aligned {

@@ -18,7 +18,7 @@ use Rattle.defs.specs.Lemmas.{All, nil, more, split, all-both, all-keep, keep-o
 use Rattle.defs.specs.Outcome.{Row, answer, firstOf, Side, entriesOf, widthRow, faultRow, rootRow, roomRow, tidyRows, Tidied, tidyOutcome, checkOutcome}
 use Rattle.defs.specs.OutcomeLaws.{refused-keeps}
 use Rattle.bits.specs.WordLaws.{rank-all}
-use Rattle.pool.specs.Sound.{formed, values-small}
+use Rattle.pool.specs.Sound.{formed, data-small, values-small}
 use Rattle.pool.specs.Answers.{zero-says, one-says, one-of, two-says, two-else}
 use Rattle.tidied.specs.ListFacts.{run, upTo-run, at-run, run-from, run-below, all-upTo, length-upTo}
 use Rattle.tidied.specs.Words.{word-bit, word-lt}
@@ -118,6 +118,9 @@ module _ (w : List ℕ) (root : Prefix) (s : Sane w) where
   pub value-fits : (i : ℕ) → i < n → firstValue w i + 32 < 2 ^ 32
   value-fits i h =
       omega (arith, s .formed .node i h .value, values-small (s .width) w (s .formed) i (omega arith), nodes-few w s)
+
+  pub held-small : (i : ℕ) → i < n → (held : ℕ) → held ≡ dataOf w i → held < 2 ^ 31
+  held-small i h held e = rw e (data-small (s .width) w (s .formed) i h)
 
   -- what the code's test of a node's bitmaps says
   pub kept-says : (i : ℕ) (b : Bitmaps) → b ≡ nodeOn w root i → (r : Bool) → r ≡ (eqb i 0 || (ltb 0 (b .data) || ltb 0 (b .child))) → isKept d k i ≡ r

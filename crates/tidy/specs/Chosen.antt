@@ -15,9 +15,10 @@ use borrow.Rule.Slice.PartMut.{putMid, midOf, postOf}
 use Rattle.defs.specs.Basics.{if_then_else_, keep, each, upTo}
 use Rattle.defs.specs.Pool.{bit, rank, ones}
 use Rattle.defs.specs.Lemmas.{split, keep-append, each-append}
-use Rattle.bits.specs.WordLaws.{rank-suc, rank-mono, ones-le}
+use Rattle.bits.specs.WordLaws.{rank-suc, rank-mono, rank-all, ones-le}
 use Rattle.tidied.specs.InOrder.{copyFrom}
-use Rattle.tidied.specs.ListFacts.{length-upTo, length-keep}
+use Rattle.tidied.specs.ListFacts.{run, length-run, run-append, length-upTo, length-keep}
+use Rattle.tidied.specs.Spots.{rank-run}
 use borrow.Author.Tests.{eqb-true, eqb-false}
 
 -- ---- a part of a buffer is written
@@ -61,6 +62,34 @@ four (w ∷ x ∷ y ∷ []) a b c e h = absurd (let z : ⊥ = omega arith in z)
 
 -- ---- the values of a node
 
+-- so many numbers from the first on
+abbrev pub numbersFrom : ℕ → ℕ → List ℕ
+numbersFrom first count = run first count
+
+-- the loop that writes them: the first `at` of n stand at the front
+pub record Numbering (first n : ℕ) (old now : List ℕ) (at : ℕ) : Type 0 where
+  pub within : at ≤ n
+  pub front : now ≡ over (numbersFrom first at) old
+
+module _ (first n : ℕ) (old : List ℕ) (room : n ≤ length old) where
+  pub numbering-start : Numbering first n old old 0
+  numbering-start = record { within = omega arith; front = refl }
+
+  module _ (now : List ℕ) (at : ℕ) (k : Numbering first n old now at) where
+    pub numbering-same : length now ≡ length old
+    numbering-same = ap length (k .front) ∙ over-length (run first at) old (omega (arith, length-run first at, k .within))
+
+    pub numbering-on : at < n → (x : ℕ) → x ≡ first + at → Numbering first n old (set now at x) (at + 1)
+    numbering-on h x e =
+        record {
+          within = omega arith;
+          front = over-one (run first at) old now x at (k .front) (sym (length-run first at)) (omega (arith, length-run first at))
+              ∙ ap (λ (l : List ℕ). over l old) (ap (λ (y : ℕ). run first at ++ (y ∷ [])) e ∙ run-append first at 1);
+        }
+
+    pub numbering-end : n ≤ at → now ≡ over (numbersFrom first n) old
+    numbering-end h = let e : at ≡ n = omega (arith, k .within) in k .front ∙ ap (λ (m : ℕ). over (run first m) old) e
+
 -- the value indices of the first n kept data bits, where `held` are all data bits of the node and `first` is its first value
 abbrev pub valuesFrom : ℕ → ℕ → ℕ → ℕ → List ℕ
 valuesFrom held first kept n = each (λ b. if bit b kept then (first + rank b held) ∷ [] else []) (upTo n)
@@ -82,6 +111,12 @@ module _ (held first kept : ℕ) where
   values-length zero = refl
   values-length (suc n) =
       ap length (value-snoc n) ∙ length-append (valuesFrom held first kept n) _ ∙ ap₂ _+_ (values-length n) (one-bit n) ∙ sym (rank-suc n kept)
+
+-- where all of a node's data bits are kept, its values are one after the other
+pub values-all : (held first kept count : ℕ) → held < 2 ^ 31 → kept ≡ held → count ≡ ones held → numbersFrom first count ≡ valuesFrom held first kept 31
+values-all held first kept count h e ec =
+    ap (run first) (ec ∙ sym (rank-all 31 32 held h (omega arith)) ∙ rank-all 31 31 held h (omega arith)) ∙ sym (rank-run first held 31)
+    ∙ ap (λ (x : ℕ). valuesFrom held first x 31) (sym e)
 
 -- the loop: the values of the first b bits stand at the front
 pub record Listing (held first kept : ℕ) (old now : List ℕ) (at b : ℕ) : Type 0 where

@@ -1,34 +1,56 @@
 -- What the tidy pool keeps of a node: its two bitmaps, as the code works them out from the node's prefix.
 use mathlib.Core.Path.{_≡_, refl, sym, ap, ap₂, _∙_, subst}
-use mathlib.Core.Bool.{Bool, true, false, not, _&&_}
+use mathlib.Core.Bool.{Bool, true, false, not, _&&_, _||_}
 use mathlib.Core.List.{List, [], _∷_, map}
-use Prim.Native.Nat.{ℕ, suc, _+_, _-_, _*_, _/_, _^_, _≤_, _<_}
+use Prim.Native.Nat.{ℕ, zero, suc, _+_, _-_, _*_, _/_, _^_, _≤_, _<_}
 use native.Mathlib.Omega.{arith}
 use native.Mathlib.Numerals.{add-one}
+use lib.Dec.{ltb}
 use lib.ListN.{getD}
+use borrow.Author.Tests.{lt-ltb}
 use Rattle.defs.specs.declared.Prefix.{Prefix}
 use Rattle.defs.specs.Basics.{if_then_else_, upTo}
 use Rattle.defs.specs.Prefix.{leads, deeper, top}
 use Rattle.defs.specs.Pool.{nodeCount, dataOf, childOf, firstChild, bit, rank, dataBit}
 use Rattle.defs.specs.Entries.{entriesAt, allEntries, under, view}
 use Rattle.defs.specs.Tidy.{dataPrefixes, childPrefixes, isUnder, wordOf}
-use Rattle.defs.specs.PrefixLaws.{Whole}
+use Rattle.defs.specs.Lemmas.{split, not-both}
+use Rattle.defs.specs.PrefixLaws.{Whole, leads-trans}
 use Rattle.bits.specs.Places.{placeLen, placeValue, placePrefix}
-use Rattle.bits.specs.PlaceLaws.{made, data-place, place-len-below}
+use Rattle.bits.specs.PlaceLaws.{made, data-place, child-place, place-len-below, place-prefix}
+use Rattle.pool.specs.Sound.{depth-60, child-node}
 use Rattle.tidied.specs.ListFacts.{full, any-full}
 use Rattle.tidied.specs.Layout.{data-bit}
 use Rattle.tidied.specs.Find.{Seen, seen-child}
+use Rattle.tidied.specs.Halving.{leads-deeper}
+use Rattle.tidied.specs.Holds.{view-sound}
 use Rattle.tidied.specs.Spots.{under-view}
-use Rattle.tidied.specs.Source.{prefixAt, prefix-seen}
-use Rattle.tidied.specs.Copying.{dataWord, childWord, taken, view-word, under-inside, under-path, under-outside}
+use Rattle.tidied.specs.Source.{prefixAt, prefix-seen, prefix-depth}
+use Rattle.tidied.specs.Copying.{dataWord, childWord, taken, view-word, used-words, under-inside, under-path, under-outside}
 use Rattle.theory.specs.declared.Node.the-variants as node
 use Rattle.view.specs.declared.Bitmaps.{Bitmaps}
 use Rattle.view.specs.Standing.{Sane, nodes-few, child-inside}
 use Rattle.view.specs.Spreads.{one, word-on}
 use Rattle.view.specs.Covered.{up-below}
-use Rattle.view.specs.Kept.{keptBit, keptOf, kept-by-places, word-more, word-below}
+use Rattle.view.specs.Kept.{keptBit, keptOf, kept-by-places, kept-whole, word-more, word-below}
 use Rattle.view.specs.Emptiness.{isNil, emptyAt, empty-says}
-use Rattle.tidy.specs.Parents.{child-prefix}
+use Rattle.tidy.specs.Full.{fullKid, fullKids}
+
+module _ (w : List ℕ) (s : Sane w) where
+  -- a child's prefix, as the code makes it
+  pub child-short : (i c : ℕ) → i < nodeCount w → c < 32 → bit c (childOf w i) ≡ true → prefixAt w i .len + 5 ≤ 60
+  child-short i c h l b =
+      let n = child-node (s .width) w (s .formed) i c h l b in
+      omega (arith, n .2, depth-60 (s .width) w (s .most) (s .formed) (firstChild w i + rank c (childOf w i)) (n .0), prefix-depth (s .width) w (s .most) (s .formed) i h)
+
+  pub child-prefix : (i c : ℕ) → i < nodeCount w → c < 32 → bit c (childOf w i) ≡ true → (p : Prefix) → p ≡ prefixAt w i → p .key < 2 ^ 64
+      → placePrefix p (32 + c) ≡ deeper p 5 c
+  child-prefix i c h l b p e f =
+      let t = child-place (32 + c) (omega arith) (omega arith) in
+      let v : 32 + c - 32 ≡ c = omega arith in
+      let d = prefix-seen (s .width) w (s .most) (s .formed) i h .1 .deep .0 in
+      place-prefix p (32 + c) (omega arith) (omega arith) (rw e d) f (omega (arith, t .0, child-short i c h l b, ap (λ (y : Prefix). y .len) e))
+      ∙ ap₂ (deeper p) (t .0) (t .1 ∙ v)
 
 -- node i of a pool without a fault, its prefix, and a root
 pub record Here (w : List ℕ) (root : Prefix) (i : ℕ) (p : Prefix) : Type 0 where
@@ -175,3 +197,35 @@ module _ (w : List ℕ) (root : Prefix) (i : ℕ) (p : Prefix) (h : Here w root 
 
   pub kept-node : (d k : ℕ) → d ≡ keptOf w root (node.At i) p → k ≡ kidsOn w root i → _≡_ {A = Bitmaps} (record { «data» = d; child = k }) (nodeOn w root i)
   kept-node d k ed ek = ap₂ (λ (x y : ℕ). record { «data» = x; child = y }) (ed ∙ kept-data) ek
+
+  -- ---- a node under the root, and one on no path with it
+
+  pub node-off : leads root p ≡ false → leads p root ≡ false → _≡_ {A = Bitmaps} (record { «data» = 0; child = 0 }) (nodeOn w root i)
+  unfolding dataOn kidsOn
+  node-off a b =
+      let es = view w root in
+      let u : (ltb 0 (dataWord es p) || ltb 0 (childWord es p)) ≡ false =
+      sym (used-words es (view-sound w root) levels p (seen .deep)) ∙ any-full (λ e. leads p (e .at)) es ∙ ap full (under-outside w root p a b) in
+      let z = none (dataWord es p) (childWord es p) u in
+      ap₂ (λ (x y : ℕ). record { «data» = x; child = y }) (z .0 ∙ ap (dataWord es) (h .prefix)) (z .1 ∙ ap (childWord es) (h .prefix))
+    where
+      none : (x y : ℕ) → (ltb 0 x || ltb 0 y) ≡ false → (0 ≡ x) × (0 ≡ y)
+      none zero zero e = (refl, refl)
+      none zero (suc y) e = not-both (lt-ltb 0 (suc y) (omega arith)) e
+      none (suc x) y e = not-both {b = true} refl (rw (lt-ltb 0 (suc x) (omega arith)) at e)
+
+  module _ (inside : leads root p ≡ true) where
+    full-kid : (c : ℕ) → c < 32 → fullKid w levels i c ≡ isUnder (view w root) (deeper p 5 c)
+    full-kid c l =
+        split (bit c (childOf w i))
+        (λ b.
+        let t : leads root (deeper p 5 c) ≡ true = leads-trans root p (deeper p 5 c) inside (leads-deeper p here-whole 5 (omega (arith, ap (λ (y : Prefix). y .len) (h .prefix), child-short w s i c (h .inside) l b)) c l) in
+        rw b (kid-inside c l (childOf w i) refl b (deeper p 5 c) refl t (firstChild w i) (rank c (childOf w i)) refl refl _ refl))
+        (λ b. rw b (kid-unset c l (childOf w i) refl b))
+
+    pub node-under : (d k n : ℕ) → d ≡ dataOf w i → n ≡ levels → k ≡ fullKids w n i → _≡_ {A = Bitmaps} (record { «data» = d; child = k }) (nodeOn w root i)
+    unfolding fullKids
+    node-under d k n ed en ek =
+        kept-node d k (kept-whole w root p i d ed s (h .inside) here-whole here-short inside)
+        (ek ∙ ap (λ (m : ℕ). fullKids w m i) en ∙ word-on (fullKid w levels i) (λ c. isUnder (view w root) (deeper p 5 c)) full-kid (up-below 32)
+        ∙ gathering-end (wordOf (λ c. isUnder (view w root) (deeper p 5 c)) (upTo 32)) 32 (omega arith) (record { within = omega arith; so-far = refl }))

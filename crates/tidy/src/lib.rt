@@ -1,72 +1,73 @@
 // Tidying: the source's nodes in order, each with what of it the view holds, and the nodes that hold nothing left out.
 ghost use mathlib.Core.Path.{_≡_};
-ghost use mathlib.Core.Bool.{true, _||_};
-ghost use Prim.Native.Nat.{_+_, _*_, _^_, _≤_, _<_};
+ghost use mathlib.Core.Bool.{not, _||_};
+ghost use Prim.Native.Nat.{_+_, _-_, _*_, _^_, _≤_, _<_};
 ghost use lib.Dec.{eqb, ltb};
 ghost use lib.ListN.{length};
-ghost use Rattle.defs.specs.Pool.{nodeCount, childOf, firstChild, bit, rank, ones};
+ghost use Rattle.defs.specs.Pool.{nodeCount, ones};
 ghost use Rattle.defs.specs.Prefix.{deeper};
 ghost use Rattle.defs.specs.Entries.{view};
 ghost use Rattle.defs.specs.Tidy.{isUnder, nodesOf, tidyPool, tidyValues};
 ghost use Rattle.defs.specs.Outcome.{firstOf, tidyOutcome};
-ghost use Rattle.tidied.specs.Source.{prefixAt};
 ghost use Rattle.view.specs.Standing.{Sane};
+ghost use Rattle.view.specs.Emptiness.{emptyAt};
+ghost use Rattle.tidy.specs.Blank.{blankRun, kidsFrom};
+ghost use Rattle.tidy.specs.Full.{fullKids};
+ghost use Rattle.tidy.specs.Runs.{Standing, Above, Ahead, belowRun};
 ghost use Rattle.tidy.specs.Kept.{Here, kidsOn, nodeOn};
-ghost use Rattle.tidy.specs.Chosen.{over, valuesFrom, nodeWords};
+ghost use Rattle.tidy.specs.Chosen.{over, numbersFrom, valuesFrom, nodeWords};
 ghost use Rattle.tidy.specs.Call.{sideOf, poolRows};
 use defs::Answer;
 use defs::Prefix;
 use theory::Node;
 use view::Bitmaps;
 
-// The node whose child node k is: the last one whose first child is no later than k, found by halving.
-fn parent(words: &[u32], k: u32) -> u32
-    requires { ⌜ Sane (now words) × (0 < k) × (k < nodeCount (now words)) ⌝ }
-    ensures { λ r. ⌜ (r < k) × (firstChild (now (words .entry)) r ≤ k) × (k < firstChild (now (words .entry)) r + ones (childOf (now (words .entry)) r)) ⌝ }
+// Where the children of node i start. After the last node that is the number of nodes.
+fn kids_from(words: &[u32], i: u32) -> u32
+    requires { ⌜ Sane (now words) × (i ≤ nodeCount (now words)) ⌝ }
+    ensures { λ r. ⌜ r ≡ kidsFrom (now (words .entry)) i ⌝ }
 {
-    let mut low: u32 = 0;
-    let mut high: u32 = k;
-    while low + 1 < high {
-        let middle = (low + high) / 2;
-        if pool::first_child(words, middle as usize) <= k {
-            low = middle;
-        } else {
-            high = middle;
-        }
+    if i as usize == words.len() / 4 {
+        return i;
     }
-    low
+    pool::first_child(words, i as usize)
 }
 
-// The place of the child that has r others before it: the last one with at most r before it, found by halving.
-fn place_of(child: u32, r: u32) -> u32
-    requires { ⌜ r < ones child ⌝ }
-    ensures { λ c. ⌜ (c < 32) × (bit c child ≡ true) × (rank c child ≡ r) ⌝ }
+// No node from `from` on and before `to` has a value.
+fn is_blank(words: &[u32], from: u32, to: u32) -> bool
+    requires { ⌜ to ≤ nodeCount (now words) ⌝ }
+    ensures { λ r. ⌜ r ≡ blankRun (now (words .entry)) from to ⌝ }
 {
-    let mut low: u32 = 0;
-    let mut high: u32 = 32;
-    while low + 1 < high {
-        let middle = (low + high) / 2;
-        if bits::rank(child, middle) <= r {
-            low = middle;
-        } else {
-            high = middle;
+    let mut i = from;
+    while i < to {
+        if pool::data_bits(words, i as usize) != 0 {
+            return false;
         }
+        i += 1;
     }
-    low
+    true
 }
 
-// The prefix of a node: its parent's with 5 bits more. At most 12 steps up, each two searches by halving.
-fn prefix_of(words: &[u32], k: u32) -> Prefix
-    requires { ⌜ Sane (now words) × (k < nodeCount (now words)) ⌝ }
-    ensures { λ p. ⌜ p ≡ prefixAt (now (words .entry)) k ⌝ }
+// A node has an entry in it or below it, so many levels deep. It is asked level by level: on each, the nodes below it stand one after the other.
+fn is_full(words: &[u32], node: u32, levels: u32) -> bool
+    requires { ⌜ Sane (now words) × (node < nodeCount (now words)) ⌝ }
+    ensures { λ r. ⌜ r ≡ not (emptyAt (now (words .entry)) levels node) ⌝ }
 {
-    if k == 0 {
-        return Prefix { key: 0, len: 0 };
+    let mut from = node;
+    let mut to = node + 1;
+    let mut left = levels;
+    while from < to {
+        if left == 0 {
+            return false;
+        }
+        if !is_blank(words, from, to) {
+            return true;
+        }
+        from = kids_from(words, from);
+        to = kids_from(words, to);
+        left -= 1;
     }
-    let up = parent(words, k);
-    let child = pool::child_bits(words, up as usize);
-    let c = place_of(child, k - pool::first_child(words, up as usize));
-    bits::place_prefix(prefix_of(words, up), 32 + c)
+    false
 }
 
 // Child c of a node of prefix p has an entry of the view in it or below it. Inside the view the child is asked; on the way to the root, the
@@ -82,7 +83,7 @@ fn kid_is_used(words: &[u32], root: Prefix, i: u32, p: Prefix, c: u32) -> bool
     let q = bits::place_prefix(p, 32 + c);
     if bits::leads(root, q) {
         let k = pool::first_child(words, i as usize) + bits::rank(child, c);
-        return !view::is_empty(words, k, 12 - p.len / 5);
+        return is_full(words, k, 12 - p.len / 5);
     }
     if bits::leads(q, root) {
         return !view::view_is_empty(words, root);
@@ -104,17 +105,153 @@ fn used_kids(words: &[u32], root: Prefix, i: u32, p: Prefix) -> u32
     word
 }
 
-// The two bitmaps that a node has in the tidy pool. The cost is that of its prefix, at most 12 steps up, and a question to each child.
-fn kept_node(words: &[u32], root: Prefix, i: u32) -> Bitmaps
-    requires { ⌜ Sane (now words) × (root .len ≤ 64) × (i < nodeCount (now words)) ⌝ }
+// The children of node i that have an entry in them or below them. Only children that there are cost a turn: they are nodes one after the other.
+fn full_kids(words: &[u32], i: u32, levels: u32) -> u32
+    requires { ⌜ Sane (now words) × (i < nodeCount (now words)) ⌝ }
+    ensures { λ r. ⌜ r ≡ fullKids (now (words .entry)) levels i ⌝ }
+{
+    let mut left = pool::child_bits(words, i as usize);
+    let mut node = pool::first_child(words, i as usize);
+    let mut word: u32 = 0;
+    while left > 0 {
+        let c = u32::trailing_zeros(left);
+        word = view::with_bit(word, c, is_full(words, node, levels));
+        left -= 1 << c;
+        node += 1;
+    }
+    word
+}
+
+// The nodes of one depth that lie on one path with the root: they are those from `from` on and before `to`. Above the root there is one at most.
+struct Run {
+    depth: u32,
+    from: u32,
+    to: u32,
+}
+
+// Places of a node's children: from `low` on and before `high`.
+struct Span {
+    low: u32,
+    high: u32,
+}
+
+// How many child places of a node at a depth lie on one path with a longer root: one, or those that the root's last bits leave open.
+fn open_places(len: u32, depth: u32) -> u32
+    requires { ⌜ (depth ≤ 59) × (depth < len) ⌝ }
+    ensures { λ r. ⌜ r ≡ 2 ^ (depth + 5 - len) ⌝ }
+{
+    if depth + 5 <= len {
+        return 1;
+    }
+    1 << (depth + 5 - len)
+}
+
+// Those places: the root's next 5 bits say which. No node at depth 60 has children.
+fn open_span(root: Prefix, depth: u32) -> Span
+    requires { ⌜ (depth < root .len) × (root .len ≤ 64) ⌝ }
+    ensures { λ r. ⌜ Ahead root depth (r .low) (r .high) ⌝ }
+{
+    if 59 < depth {
+        return Span { low: 0, high: 0 };
+    }
+    let size = open_places(root.len, depth);
+    let next = ((root.key >> (59 - depth)) % 32) as u32;
+    let low = next - next % size;
+    Span {
+        low,
+        high: low + size,
+    }
+}
+
+// The children of a run's nodes: from the first child of its first node on, and before that of the node after it.
+fn below_run(words: &[u32], run: Run) -> Run
+    requires { ⌜ (run .from ≤ run .to) × (run .to < nodeCount (now words)) × (run .depth + 5 < 2 ^ 32) ⌝ }
+    ensures { λ r. ⌜ r ≡ belowRun (now (words .entry)) run ⌝ }
+{
+    Run {
+        depth: run.depth + 5,
+        from: pool::first_child(words, run.from as usize),
+        to: pool::first_child(words, run.to as usize),
+    }
+}
+
+// The children on one path with the root of the one node on the way to it. Where there are none, the run ends where the next node's children start.
+fn below_node(words: &[u32], root: Prefix, run: Run) -> Run
+    requires { ⌜ Above (now words) root run × (run .from < run .to) × (run .depth < root .len) ⌝ }
+    ensures { λ r. ⌜ Standing (now (words .entry)) root r (run .to) × (run .to < r .to) ⌝ }
+{
+    let places = open_span(root, run.depth);
+    let child = pool::child_bits(words, run.from as usize);
+    let first = pool::first_child(words, run.from as usize);
+    let from = first + bits::rank(child, places.low);
+    let to = first + bits::rank(child, places.high);
+    if from == to {
+        let end = pool::first_child(words, run.to as usize);
+        return Run {
+            depth: run.depth + 5,
+            from: end,
+            to: end,
+        };
+    }
+    Run {
+        depth: run.depth + 5,
+        from,
+        to,
+    }
+}
+
+// The run of the next depth: all children of a run under the root, and of the node on the way to it those on one path with it.
+fn next_run(words: &[u32], root: Prefix, run: Run) -> Run
+    requires { ⌜ Above (now words) root run ⌝ }
+    ensures { λ r. ⌜ Standing (now (words .entry)) root r (run .to) × (run .to < r .to) ⌝ }
+{
+    if root.len <= run.depth {
+        return below_run(words, run);
+    }
+    if run.from == run.to {
+        return below_run(words, run);
+    }
+    below_node(words, root, run)
+}
+
+// The run that node i is before or in: the next one once this one is passed.
+fn run_at(words: &[u32], root: Prefix, run: Run, i: u32) -> Run
+    requires { ⌜ Sane (now words) × (root .len ≤ 64) × (i < nodeCount (now words)) × Standing (now words) root run i ⌝ }
+    ensures { λ r. ⌜ Standing (now (words .entry)) root r i × (i < r .to) ⌝ }
+{
+    if i == run.to {
+        return next_run(words, root, run);
+    }
+    run
+}
+
+// The two bitmaps that a node on the way to the root has in the tidy pool: its prefix is the root's first bits.
+fn way_node(words: &[u32], root: Prefix, i: u32, p: Prefix) -> Bitmaps
+    requires { ⌜ Here (now words) root i p ⌝ }
     ensures { λ r. ⌜ r ≡ nodeOn (now (words .entry)) root i ⌝ }
 {
-    let p = prefix_of(words, i);
     let kept = view::kept_data(words, root, Node::At(i), p);
     let kids = used_kids(words, root, i, p);
     Bitmaps {
         data: kept,
         child: kids,
+    }
+}
+
+// The two bitmaps that a node has in the tidy pool. Before the run there is nothing to keep; under the root all values are kept.
+fn kept_node(words: &[u32], root: Prefix, run: Run, i: u32) -> Bitmaps
+    requires { ⌜ Sane (now words) × (root .len ≤ 64) × (i < nodeCount (now words)) × Standing (now words) root run i × (i < run .to) ⌝ }
+    ensures { λ r. ⌜ r ≡ nodeOn (now (words .entry)) root i ⌝ }
+{
+    if i < run.from {
+        return Bitmaps { data: 0, child: 0 };
+    }
+    if run.depth < root.len {
+        return way_node(words, root, i, view::shortened(root, run.depth));
+    }
+    Bitmaps {
+        data: pool::data_bits(words, i as usize),
+        child: full_kids(words, i, 12 - run.depth / 5),
     }
 }
 
@@ -142,8 +279,21 @@ fn put_node(out: &mut [u32], b: Bitmaps, children: u32, values: u32)
     out[3] = values;
 }
 
-// The old value index of each kept data bit, at the front of a buffer: values are counted by all data bits that the source node has.
-fn put_values(values: &mut [u32], held: u32, first: u32, kept: u32)
+// Values one after the other from `first` on, at the front of a buffer.
+fn put_all(values: &mut [u32], first: u32, count: u32)
+    requires { ⌜ (count ≤ length (now values)) × (first + count < 2 ^ 32) ⌝ }
+    ensures { λ _. ⌜ now (values .exit) ≡ over (numbersFrom first count) (now (values .entry)) ⌝ }
+{
+    let n = count as usize;
+    let mut at: usize = 0;
+    while at < n {
+        values[at] = first + at as u32;
+        at += 1;
+    }
+}
+
+// The old value index of each kept data bit, bit by bit: values are counted by all data bits that the source node has.
+fn put_some(values: &mut [u32], held: u32, first: u32, kept: u32)
     requires { ⌜ (ones kept ≤ length (now values)) × (first + 32 < 2 ^ 32) ⌝ }
     ensures { λ _. ⌜ now (values .exit) ≡ over (valuesFrom held first kept 31) (now (values .entry)) ⌝ }
 {
@@ -157,6 +307,18 @@ fn put_values(values: &mut [u32], held: u32, first: u32, kept: u32)
         } else {
             b += 1;
         }
+    }
+}
+
+// The old value index of each kept data bit, at the front of a buffer. Where all are kept they are one after the other.
+fn put_values(values: &mut [u32], held: u32, first: u32, kept: u32)
+    requires { ⌜ (held < 2 ^ 31) × (ones kept ≤ length (now values)) × (first + 32 < 2 ^ 32) ⌝ }
+    ensures { λ _. ⌜ now (values .exit) ≡ over (valuesFrom held first kept 31) (now (values .entry)) ⌝ }
+{
+    if kept == held {
+        put_all(values, first, bits::ones(held));
+    } else {
+        put_some(values, held, first, kept);
     }
 }
 
@@ -174,9 +336,15 @@ fn measure(words: &[u32], root: Prefix) -> Size
     let n = words.len() / 4;
     let mut nodes: u32 = 0;
     let mut entries: u32 = 0;
+    let mut run = Run {
+        depth: 0,
+        from: 0,
+        to: 1,
+    };
     let mut i: usize = 0;
     while i < n {
-        let b = kept_node(words, root, i as u32);
+        run = run_at(words, root, run, i as u32);
+        let b = kept_node(words, root, run, i as u32);
         if is_kept(i, b) {
             nodes += 1;
             entries += bits::ones(b.data);
@@ -198,9 +366,15 @@ fn write(words: &[u32], root: Prefix, out: &mut [u32], values: &mut [u32])
     let mut at: usize = 0;
     let mut children: u32 = 0;
     let mut count: usize = 0;
+    let mut run = Run {
+        depth: 0,
+        from: 0,
+        to: 1,
+    };
     let mut i: usize = 0;
     while i < n {
-        let b = kept_node(words, root, i as u32);
+        run = run_at(words, root, run, i as u32);
+        let b = kept_node(words, root, run, i as u32);
         if is_kept(i, b) {
             put_node(&mut out[at..], b, children, count as u32);
             let held = pool::data_bits(words, i);

@@ -39,14 +39,7 @@ fn beside(len: u32) -> Prefix {
 fn pool(prefixes: &[Prefix]) -> Vec<u32> {
     let mut table = Table::from([((0, 0), 0)]);
     for &(key, len) in prefixes {
-        for depth in (5..=len).step_by(5) {
-            table.entry((depth, key & mask(depth))).or_insert(0);
-        }
-        let depth = len / 5 * 5;
-        let count = len - depth;
-        let value = (key << depth).checked_shr(64 - count).unwrap_or(0);
-        let bit = (1 << count) - 1 + value as u32;
-        *table.entry((depth, key & mask(depth))).or_insert(0) |= 1 << bit;
+        pools::add_prefix(&mut table, key, len);
     }
     words(&table)
 }

@@ -9,7 +9,8 @@ mod shapes;
 mod tables;
 
 pub use damage::{damaged, garbage, too_large, FAULTS};
+pub use pools::{words, Table};
 pub use random::Random;
-pub use roots::{long_length, near, ROOT_KINDS};
+pub use roots::{long_length, near};
 pub use shapes::{chain, crowded, pair, small, Node};
-pub use tables::{large, varied, words, Table};
+pub use tables::{large, varied};

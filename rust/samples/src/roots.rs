@@ -2,10 +2,10 @@
 
 use crate::random::Random;
 use crate::shapes::any_node;
-use crate::tables::Table;
+use pools::Table;
 
 /// How many kinds of roots `near` draws from.
-pub const ROOT_KINDS: usize = 13;
+const ROOT_KINDS: usize = 13;
 
 /// A word whose first `len` bits are ones.
 fn mask(len: u32) -> u64 {

@@ -1,7 +1,8 @@
 //! Small tables of many shapes, and pairs of tables that share much.
 
 use crate::random::Random;
-use crate::tables::{last_depth, some_data, usable, varied, Table};
+use crate::tables::{last_depth, some_data, usable, varied};
+use pools::{add_node, Table};
 
 /// A node's depth and bits.
 pub type Node = (u32, u64);
@@ -127,10 +128,7 @@ pub fn crowded(random: &mut Random, width: u32) -> (Table, Table, Node) {
     let (mut first, mut second) = pair(random, width);
     let node = any_node(random, &first);
     for table in [&mut first, &mut second] {
-        for depth in (0..=node.0).step_by(5) {
-            let key = node.1 & u64::MAX.checked_shl(64 - depth).unwrap_or(0);
-            table.entry((depth, key)).or_insert(0);
-        }
+        add_node(table, node);
         let data = random.word() as u32 | random.word() as u32 & 0x7f;
         table.insert(node, data & usable(width, node.0));
     }

@@ -1,10 +1,7 @@
 //! Well-formed pools by way of a table of nodes.
 
 use crate::random::Random;
-use std::collections::BTreeMap;
-
-/// The data bitmap of each node, by its depth and its bits: the order of the table is the order of a pool.
-pub type Table = BTreeMap<(u32, u64), u32>;
+use pools::{parent, Table};
 
 /// The last depth that has nodes.
 pub(crate) fn last_depth(width: u32) -> u32 {
@@ -15,35 +12,6 @@ pub(crate) fn last_depth(width: u32) -> u32 {
 pub fn usable(width: u32, depth: u32) -> u32 {
     let bits = (width - depth).min(4);
     ((1u64 << ((2 << bits) - 1)) - 1) as u32
-}
-
-/// The node above, and the child bit below it.
-fn parent((depth, key): (u32, u64)) -> ((u32, u64), u32) {
-    let up = depth - 5;
-    let cut = if up == 0 {
-        0
-    } else {
-        key >> (64 - up) << (64 - up)
-    };
-    ((up, cut), (key << up >> 59) as u32)
-}
-
-/// The words of a table's pool.
-pub fn words(table: &Table) -> Vec<u32> {
-    let mut children: BTreeMap<(u32, u64), u32> = BTreeMap::new();
-    for &node in table.keys().filter(|node| node.0 > 0) {
-        let (up, bit) = parent(node);
-        *children.entry(up).or_default() |= 1 << bit;
-    }
-    let (mut first_child, mut first_value) = (1, 0);
-    let mut words = Vec::with_capacity(4 * table.len());
-    for (node, &data) in table {
-        let child = children.get(node).copied().unwrap_or(0);
-        words.extend([data, child, first_child, first_value]);
-        first_child += child.count_ones();
-        first_value += data.count_ones();
-    }
-    words
 }
 
 /// A data bitmap: none, one bit, some bits, or seldom all.

@@ -1,7 +1,7 @@
 -- `tidy::kid_is_used` meets its contract. By the cases of the child: none, inside the view, on the way to the root, elsewhere.
 use Rattle.tidy.specs.Kept as kept
 use borrow.Author.Tests.{not-true, not-false}
-use mathlib.Core.Path.{sym, _∙_}
+use mathlib.Core.Path.{refl, sym, _∙_}
 use native.Mathlib.Omega.{arith}
 use borrow.Author.Needs.{needs}
 use Rattle.tidy.proofs.kid_is_used.Statement.{statement}
@@ -34,14 +34,14 @@ rank-requires c κs = search needs
 add-k : tie.Need-add-k
 add-k c = record { fits = kept.kid-in (c .before .before .before .before .before .before .before .before .before .args .words .now) (c .before .before .before .before .before .before .before .before .before .args .root) (c .before .before .before .before .before .before .before .before .before .args .i) (c .before .before .before .before .before .before .before .before .before .args .p) (c .before .before .before .before .before .before .before .before .before .pre .0) (c .before .before .before .before .before .before .before .before .before .args .c) (c .before .before .before .before .before .before .before .before .before .pre .1) _ (c .before .before .before .before .before .before .before .child-bits .ensures) (sym (c .before .before .before .before .before .before .bit .ensures) ∙ not-false _ (c .before .before .before .before .before .if1 .left)) _ _ (c .before .first-child .ensures) (c .rank .ensures) .1 }
 
-sub-is-empty : tie.Need-sub-is-empty
-sub-is-empty c = kept.here-levels (c .before .before .before .before .before .before .before .before .before .before .args .words .now) (c .before .before .before .before .before .before .before .before .before .before .args .root) (c .before .before .before .before .before .before .before .before .before .before .args .i) (c .before .before .before .before .before .before .before .before .before .before .args .p) (c .before .before .before .before .before .before .before .before .before .before .pre .0)
+sub-is-full : tie.Need-sub-is-full
+sub-is-full c = kept.here-levels (c .before .before .before .before .before .before .before .before .before .before .args .words .now) (c .before .before .before .before .before .before .before .before .before .before .args .root) (c .before .before .before .before .before .before .before .before .before .before .args .i) (c .before .before .before .before .before .before .before .before .before .before .args .p) (c .before .before .before .before .before .before .before .before .before .before .pre .0)
 
-is-empty-requires : tie.Need-is-empty-requires
-is-empty-requires c κs = (c .before .before .before .before .before .before .before .before .before .before .pre .0 .sane, kept.kid-in (c .before .before .before .before .before .before .before .before .before .before .args .words .now) (c .before .before .before .before .before .before .before .before .before .before .args .root) (c .before .before .before .before .before .before .before .before .before .before .args .i) (c .before .before .before .before .before .before .before .before .before .before .args .p) (c .before .before .before .before .before .before .before .before .before .before .pre .0) (c .before .before .before .before .before .before .before .before .before .before .args .c) (c .before .before .before .before .before .before .before .before .before .before .pre .1) _ (c .before .before .before .before .before .before .before .before .child-bits .ensures) (sym (c .before .before .before .before .before .before .before .bit .ensures) ∙ not-false _ (c .before .before .before .before .before .before .if1 .left)) _ _ (c .before .before .first-child .ensures) (c .before .rank .ensures) .0)
+is-full-requires : tie.Need-is-full-requires
+is-full-requires c κs = (c .before .before .before .before .before .before .before .before .before .before .pre .0 .sane, kept.kid-in (c .before .before .before .before .before .before .before .before .before .before .args .words .now) (c .before .before .before .before .before .before .before .before .before .before .args .root) (c .before .before .before .before .before .before .before .before .before .before .args .i) (c .before .before .before .before .before .before .before .before .before .before .args .p) (c .before .before .before .before .before .before .before .before .before .before .pre .0) (c .before .before .before .before .before .before .before .before .before .before .args .c) (c .before .before .before .before .before .before .before .before .before .before .pre .1) _ (c .before .before .before .before .before .before .before .before .child-bits .ensures) (sym (c .before .before .before .before .before .before .before .bit .ensures) ∙ not-false _ (c .before .before .before .before .before .before .if1 .left)) _ _ (c .before .before .first-child .ensures) (c .before .rank .ensures) .0)
 
 returns-2 : tie.Need-returns-2
-returns-2 c = kept.kid-inside (c .before .before .before .before .before .before .before .before .before .before .before .args .words .now) (c .before .before .before .before .before .before .before .before .before .before .before .args .root) (c .before .before .before .before .before .before .before .before .before .before .before .args .i) (c .before .before .before .before .before .before .before .before .before .before .before .args .p) (c .before .before .before .before .before .before .before .before .before .before .before .pre .0) (c .before .before .before .before .before .before .before .before .before .before .before .args .c) (c .before .before .before .before .before .before .before .before .before .before .before .pre .1) _ (c .before .before .before .before .before .before .before .before .before .child-bits .ensures) (sym (c .before .before .before .before .before .before .before .before .bit .ensures) ∙ not-false _ (c .before .before .before .before .before .before .before .if1 .left)) _ (kept.kid-prefix (c .before .before .before .before .before .before .before .before .before .before .before .args .words .now) (c .before .before .before .before .before .before .before .before .before .before .before .args .root) (c .before .before .before .before .before .before .before .before .before .before .before .args .i) (c .before .before .before .before .before .before .before .before .before .before .before .args .p) (c .before .before .before .before .before .before .before .before .before .before .before .pre .0) (c .before .before .before .before .before .before .before .before .before .before .before .args .c) (c .before .before .before .before .before .before .before .before .before .before .before .pre .1) _ (c .before .before .before .before .before .before .before .before .before .child-bits .ensures) (sym (c .before .before .before .before .before .before .before .before .bit .ensures) ∙ not-false _ (c .before .before .before .before .before .before .before .if1 .left)) (omega arith) _ (c .before .before .before .before .before .before .place-prefix .ensures)) (sym (c .before .before .before .before .before .leads .ensures) ∙ c .before .before .before .before .if2 .taken) _ _ (c .before .before .before .first-child .ensures) (c .before .before .rank .ensures) _ (c .is-empty .ensures)
+returns-2 c = c .is-full .ensures ∙ kept.kid-inside (c .before .before .before .before .before .before .before .before .before .before .before .args .words .now) (c .before .before .before .before .before .before .before .before .before .before .before .args .root) (c .before .before .before .before .before .before .before .before .before .before .before .args .i) (c .before .before .before .before .before .before .before .before .before .before .before .args .p) (c .before .before .before .before .before .before .before .before .before .before .before .pre .0) (c .before .before .before .before .before .before .before .before .before .before .before .args .c) (c .before .before .before .before .before .before .before .before .before .before .before .pre .1) _ (c .before .before .before .before .before .before .before .before .before .child-bits .ensures) (sym (c .before .before .before .before .before .before .before .before .bit .ensures) ∙ not-false _ (c .before .before .before .before .before .before .before .if1 .left)) _ (kept.kid-prefix (c .before .before .before .before .before .before .before .before .before .before .before .args .words .now) (c .before .before .before .before .before .before .before .before .before .before .before .args .root) (c .before .before .before .before .before .before .before .before .before .before .before .args .i) (c .before .before .before .before .before .before .before .before .before .before .before .args .p) (c .before .before .before .before .before .before .before .before .before .before .before .pre .0) (c .before .before .before .before .before .before .before .before .before .before .before .args .c) (c .before .before .before .before .before .before .before .before .before .before .before .pre .1) _ (c .before .before .before .before .before .before .before .before .before .child-bits .ensures) (sym (c .before .before .before .before .before .before .before .before .bit .ensures) ∙ not-false _ (c .before .before .before .before .before .before .before .if1 .left)) (omega arith) _ (c .before .before .before .before .before .before .place-prefix .ensures)) (sym (c .before .before .before .before .before .leads .ensures) ∙ c .before .before .before .before .if2 .taken) _ _ (c .before .before .before .first-child .ensures) (c .before .before .rank .ensures) _ refl
 
 leads-requires-2 : tie.Need-leads-requires-2
 leads-requires-2 c κs = search needs
@@ -68,8 +68,8 @@ kid-is-used-spec =
     first-child-requires
     rank-requires
     add-k
-    sub-is-empty
-    is-empty-requires
+    sub-is-full
+    is-full-requires
     returns-2
     leads-requires-2
     view-is-empty-requires

@@ -6,8 +6,8 @@ use Rattle.sets.proofs.call.common_start.Tie as tie
 use Rattle.sets.proofs.call.common_start.Reads as reads
 use Rattle.sets.proofs.call.common_start.Lts as lts
 use Rattle.bits.proofs.common_len.Reads as common-len-reads
-use Rattle.sets.proofs.walk.entered.Reads as entered-reads
-use Rattle.sets.proofs.walk.no_covers.Reads as no-covers-reads
+use Rattle.walk.proofs.entered.Reads as entered-reads
+use Rattle.walk.proofs.no_covers.Reads as no-covers-reads
 use Rattle.view.proofs.at_depth.Reads as at-depth-reads
 use Rattle.view.proofs.shortened.Reads as shortened-reads
 

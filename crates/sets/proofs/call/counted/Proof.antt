@@ -1,7 +1,7 @@
 use mathlib.Core.Path.{_∙_, ap}
 use native.Mathlib.Omega.{arith}
 use Rattle.sets.specs.Listing as listing
-use Rattle.sets.specs.Ready.{jobOf}
+use Rattle.walk.specs.Ready.{jobOf}
 use Rattle.theory.specs.Steps.{levelRest}
 use borrow.Author.Needs.{needs}
 use Rattle.sets.proofs.call.counted.Statement.{statement}
@@ -11,7 +11,7 @@ use Rattle.sets.proofs.call.counted.Lts as lts
 use Rattle.defs.proofs.Answer.new.Reads as new-reads
 use Rattle.sets.proofs.call.room_in.Reads as room-in-reads
 use Rattle.sets.proofs.call.written.Reads as written-reads
-use Rattle.sets.proofs.walk.run.Reads as run-reads
+use Rattle.walk.proofs.run.Reads as run-reads
 
 -- src/call.rt:133:9
 run-requires : tie.Need-run-requires

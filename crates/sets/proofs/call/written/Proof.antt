@@ -1,6 +1,6 @@
 use native.Mathlib.Omega.{arith}
 use Rattle.sets.specs.Listing as listing
-use Rattle.sets.specs.Ready.{jobOf}
+use Rattle.walk.specs.Ready.{jobOf}
 use Rattle.theory.specs.Steps.{levelRest}
 use borrow.Author.Needs.{needs}
 use Rattle.sets.proofs.call.written.Statement.{statement}
@@ -8,7 +8,7 @@ use Rattle.sets.proofs.call.written.Tie as tie
 use Rattle.sets.proofs.call.written.Reads as reads
 use Rattle.sets.proofs.call.written.Lts as lts
 use Rattle.defs.proofs.Answer.new.Reads as new-reads
-use Rattle.sets.proofs.walk.run.Reads as run-reads
+use Rattle.walk.proofs.run.Reads as run-reads
 
 -- src/call.rt:110:9
 run-requires : tie.Need-run-requires

@@ -3,7 +3,7 @@ use Rattle.sets.proofs.covering_difference.nothing.Statement.{statement
 use Rattle.sets.proofs.covering_difference.nothing.Tie as tie
 use Rattle.sets.proofs.covering_difference.nothing.Reads as reads
 use Rattle.sets.proofs.covering_difference.nothing.Lts as lts
-use Rattle.sets.proofs.walk.no_covers.Reads as no-covers-reads
+use Rattle.walk.proofs.no_covers.Reads as no-covers-reads
 
 -- src/covering_difference.rt:103:16
 no-covers-requires : tie.Need-no-covers-requires

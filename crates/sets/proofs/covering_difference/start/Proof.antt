@@ -11,8 +11,8 @@ use Rattle.sets.proofs.covering_difference.start.Reads as reads
 use Rattle.sets.proofs.covering_difference.start.Lts as lts
 use Rattle.sets.proofs.covering_difference.align.Reads as align-reads
 use Rattle.sets.proofs.covering_difference.nothing.Reads as nothing-reads
-use Rattle.sets.proofs.walk.entered.Reads as entered-reads
-use Rattle.sets.proofs.walk.no_covers.Reads as no-covers-reads
+use Rattle.walk.proofs.entered.Reads as entered-reads
+use Rattle.walk.proofs.no_covers.Reads as no-covers-reads
 use Rattle.view.proofs.at_depth.Reads as at-depth-reads
 use Rattle.view.proofs.shortened.Reads as shortened-reads
 

@@ -16,7 +16,7 @@ use Rattle.sets.proofs.equality.pair_equal.Reads as pair-equal
 use Rattle.sets.proofs.equality.pair_equal.Kinds as pair-equal-kinds
 use Rattle.sets.proofs.equality.+child_equal+pair_equal.Lts-pair_equal as pair-equal-lts
 use Rattle.bits.proofs.place_prefix.Reads as place-prefix-reads
-use Rattle.sets.proofs.union.wanted.Reads as wanted-reads
+use Rattle.rules.proofs.union.wanted.Reads as wanted-reads
 use Rattle.view.proofs.bitmaps_at.Reads as bitmaps-at-reads
 use Rattle.view.proofs.child_at.Reads as child-at-reads
 use Rattle.view.proofs.kept_data.Reads as kept-data-reads
