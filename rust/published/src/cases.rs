@@ -69,6 +69,24 @@ pub fn case(width: u32, seed: u64, number: u64) -> Case {
     }
 }
 
+/// The small cases of the comparison with the reference that are well-formed and have valid roots.
+pub fn small() -> impl Iterator<Item = Case> {
+    compare::small_cases::all().filter_map(|case| {
+        let root = |root: lhamtrovi::Root| (root.key, root.len);
+        let right = case.right_words().to_vec();
+        let case = Case {
+            width: case.width,
+            left_root: root(case.left.root),
+            left: case.left.words,
+            right_root: root(case.right.root),
+            right,
+        };
+        let lengths = case.left_root.1.max(case.right_root.1);
+        let sound = |words: &[u32]| reference::check(case.width, words).number == 0;
+        (sound(&case.left) && sound(&case.right) && lengths <= case.width).then_some(case)
+    })
+}
+
 /// The cases of the stored sample: the first ones with small pools, at both widths.
 pub fn sample() -> Vec<Case> {
     let of_width = |width| {

@@ -40,7 +40,7 @@ pub use prefix::Prefix;
 pub use trieview::{AsView, TrieRef, TrieRefMut, TrieView};
 
 pub use answers::{proved, reference_answers, Answers, LISTS};
-pub use cases::{case, sample, Case};
+pub use cases::{case, sample, small, Case};
 pub use run::compare;
 
 #[cfg(published)]

@@ -7,6 +7,7 @@ use std::process::ExitCode;
 
 const HELP: &str = "\
 published COUNT SEED   COUNT random cases at each width: the published views, the proved library and the reference
+published --small      the small cases of the comparison with the reference, as far as they are well-formed
 published --vectors    a sample of the published views' answers, as vectors/published.txt has it
 published --stored     the sample on standard input against the proved library and the reference
 published --found      whether the published files were found: exit status 0 or 1
@@ -40,37 +41,76 @@ fn replay() -> Result<(), Failure> {
 mod with_files {
     use super::Failure;
     use published::stored::{write, Stored};
-    use published::{absent, case, compare, sample, views};
+    use published::{absent, case, compare, sample, small, views, Case};
     use std::time::Instant;
 
-    /// Random cases at both widths; the first disagreements are shown, all are counted.
-    pub fn run(count: u64, seed: u64) -> Result<(), Failure> {
-        let start = Instant::now();
-        for width in [32, 64] {
-            let mut wrong = 0;
-            let (mut records, mut equal, mut without_view) = ([0; 5], 0, 0);
-            for number in 0..count {
-                let case = case(width, seed, number);
-                let answers = views(&case);
-                if let Err(report) = compare(&case, &answers) {
-                    wrong += 1;
-                    if wrong <= 3 {
-                        println!("DISAGREEMENT: case {number} of seed {seed}: {report}");
-                    }
+    /// What came up in a run.
+    #[derive(Default)]
+    struct Tally {
+        cases: u64,
+        wrong: u64,
+        records: [usize; 5],
+        equal: u64,
+        without_view: u64,
+    }
+
+    impl Tally {
+        /// Compares a case and counts it; the first disagreements are shown.
+        fn add(&mut self, name: &str, case: &Case) {
+            let answers = views(case);
+            self.cases += 1;
+            if let Err(report) = compare(case, &answers) {
+                self.wrong += 1;
+                if self.wrong <= 3 {
+                    println!("DISAGREEMENT: {name}: {report}");
                 }
-                let counts = answers.lists.map(|list| list.len());
-                records = std::array::from_fn(|list| records[list] + counts[list]);
-                equal += u64::from(answers.equal);
-                without_view += u64::from(absent(&case));
             }
+            for (sum, list) in self.records.iter_mut().zip(&answers.lists) {
+                *sum += list.len();
+            }
+            self.equal += u64::from(answers.equal);
+            self.without_view += u64::from(absent(case));
+        }
+
+        /// Says what came up; disagreements are a failure.
+        fn end(&self, name: &str, start: Instant) -> Result<(), Failure> {
             let seconds = start.elapsed().as_secs_f64();
-            println!("width {width}: {count} cases of seed {seed}, {wrong} disagreements, {seconds:.1} s");
-            println!("  records of the five lists {records:?}; equal keys in {equal}; a root without a view in {without_view}");
-            if wrong > 0 {
-                return Err((1, format!("{wrong} disagreements at width {width}")));
+            let (cases, wrong) = (self.cases, self.wrong);
+            println!("{name}: {cases} cases, {wrong} disagreements, {seconds:.1} s");
+            println!("  records of the five lists: {:?}", self.records);
+            println!(
+                "  equal keys: {}; a root without a view: {}",
+                self.equal, self.without_view
+            );
+            match wrong {
+                0 => Ok(()),
+                _ => Err((1, format!("{name}: {wrong} disagreements"))),
             }
         }
+    }
+
+    /// Random cases at both widths.
+    pub fn run(count: u64, seed: u64) -> Result<(), Failure> {
+        for width in [32, 64] {
+            let (start, mut tally) = (Instant::now(), Tally::default());
+            for number in 0..count {
+                tally.add(
+                    &format!("case {number} of seed {seed}"),
+                    &case(width, seed, number),
+                );
+            }
+            tally.end(&format!("width {width}, seed {seed}"), start)?;
+        }
         Ok(())
+    }
+
+    /// The small cases.
+    pub fn small_cases() -> Result<(), Failure> {
+        let (start, mut tally) = (Instant::now(), Tally::default());
+        for (number, case) in small().enumerate() {
+            tally.add(&format!("small case {number}"), &case);
+        }
+        tally.end("small cases", start)
     }
 
     /// The stored sample.
@@ -99,6 +139,11 @@ mod with_files {
     }
 
     /// Cannot be.
+    pub fn small_cases() -> Result<(), Failure> {
+        run(0, 0)
+    }
+
+    /// Cannot be.
     pub fn vectors() -> Result<(), Failure> {
         run(0, 0)
     }
@@ -111,6 +156,7 @@ fn run(arguments: &[&str]) -> Result<(), Failure> {
             println!("{HELP}");
             Ok(())
         }
+        ["--small"] => with_files::small_cases(),
         ["--vectors"] => with_files::vectors(),
         ["--stored"] => replay(),
         ["--found"] if FOUND => Ok(()),
