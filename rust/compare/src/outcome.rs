@@ -191,11 +191,14 @@ pub fn compare(
     one: &dyn Engine,
     other: &dyn Engine,
 ) -> Result<Vec<Answer>, Box<Disagreement>> {
-    let lending = Lending::new(case);
+    // Each engine has its own copy of the pools, so that one that changes them cannot mislead the other.
+    let sides = [one, other].map(|engine| (engine, Lending::new(case)));
     let mut answers = Vec::with_capacity(CALLS.len());
     for call in CALLS {
         let sizes = sizes(call, case);
-        let outcomes = [one, other].map(|engine| outcome(engine, call, &lending, sizes));
+        let outcomes = sides
+            .each_ref()
+            .map(|(engine, lending)| outcome(*engine, call, lending, sizes));
         if outcomes[0] != outcomes[1] {
             let case = case.clone();
             return Err(Box::new(Disagreement {
