@@ -29,11 +29,11 @@ bench: lib ## time the library against ordinary fast Rust; the table goes to doc
 
 COUNT ?= 1000000
 SEED ?= 1
-compare: ## compare the built library and program with the reference on COUNT random cases of SEED
+compare: lib ## compare the library, and the program as built, with the reference on COUNT random cases of SEED
 	@cargo build --offline --release --quiet --manifest-path rust/Cargo.toml -p compare
 	@rust/target/release/compare $(COUNT) $(SEED)
 
-published: ## compare the published set views, if they are beside the project, with the built library; COUNT cases of SEED at each width
+published: lib ## compare the published set views, if they are beside the project, with the library; COUNT cases of SEED at each width
 	@cargo build --offline --release --quiet --manifest-path rust/Cargo.toml -p published
 	@rust/target/release/published $(COUNT) $(SEED)
 
