@@ -135,7 +135,7 @@ pub fn crowded(random: &mut Random, width: u32) -> (Table, Table, Node) {
     (first, second, node)
 }
 
-/// A small table and a second one: the same, nearly the same, with nodes cut off, with empty nodes more, or quite another.
+/// Two small tables, either one the first: the same, nearly the same, with nodes cut off, with empty nodes more, or quite another.
 pub fn pair(random: &mut Random, width: u32) -> (Table, Table) {
     let first = small(random, width);
     let second = match random.below(10) {
@@ -145,5 +145,8 @@ pub fn pair(random: &mut Random, width: u32) -> (Table, Table) {
         7 | 8 => untidied(random, width, &first),
         _ => small(random, width),
     };
-    (first, second)
+    match random.once_in(2) {
+        true => (first, second),
+        false => (second, first),
+    }
 }
