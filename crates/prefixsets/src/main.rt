@@ -1,6 +1,4 @@
 // The text program: a request on standard input, its answer on standard output.
-mod answer;
-
 ghost use mathlib.Core.Path.{_≡_};
 ghost use lib.ListN.{length};
 use libc::STDIN_FILENO;

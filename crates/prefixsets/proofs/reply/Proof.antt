@@ -10,7 +10,7 @@ use Rattle.prefixsets.proofs.reply.Tie as tie
 use Rattle.prefixsets.proofs.reply.Reads as reads
 use Rattle.prefixsets.proofs.reply.Lts as lts
 use Rattle.io.proofs.large_buffer.Reads as large-buffer-reads
-use Rattle.prefixsets.proofs.answer.answer.Reads as answer-reads
+use Rattle.answer.proofs.answer.Reads as answer-reads
 use Rattle.prefixsets.proofs.put.Reads as put-reads
 
 -- src/main.rt:79:9
