@@ -1,7 +1,7 @@
 -- From the reader's outcome and a call's to the text: how the program's parts come together.
-use mathlib.Core.Path.{_≡_, refl, sym, ap, ap₂, _∙_, subst}
+use mathlib.Core.Path.{_≡_, sym, ap, ap₂, _∙_, subst}
 use mathlib.Core.Bool.{Bool, true, false}
-use mathlib.Core.List.{List, [], _∷_, _++_}
+use mathlib.Core.List.{List, []}
 use Prim.Native.Nat.{ℕ, _+_, _≤_}
 use Prim.Native.Char.{code}
 use native.Mathlib.Omega.{arith}
@@ -11,8 +11,7 @@ use Rattle.defs.specs.declared.Answer.{Answer}
 use Rattle.defs.specs.Basics.{if_then_else_}
 use Rattle.defs.specs.Pool.{nodeCount}
 use Rattle.defs.specs.Lemmas.{split}
-use Rattle.defs.specs.Outcome.{Listed, answer}
-use Rattle.text.specs.declared.Call.{Call}
+use Rattle.defs.specs.Outcome.{answer}
 use Rattle.text.specs.declared.Call.the-variants.{Equality}
 use Rattle.text.specs.declared.Head.{Head}
 use Rattle.text.specs.declared.Said.{Said}
@@ -21,7 +20,7 @@ use Rattle.text.specs.declared.Top.the-variants as top
 use Rattle.text.specs.declared.Request.{Request}
 use Rattle.text.specs.declared.Request.the-variants.{Good, Bad}
 use Rattle.text.specs.Bytes.{skip}
-use Rattle.text.specs.Input.{Outcome, Side, over, readOutcome, afterHead, nodesRead, requestOf, roomOf, topOf, sideOf}
+use Rattle.text.specs.Input.{Outcome, Side, over, readOutcome, afterHead, requestOf, roomOf, topOf, sideOf}
 use Rattle.text.specs.Output.{outputOf, Wrote}
 use Rattle.answer.specs.Answering.{leaves, saidBy, linesOf, replyTo, textOf}
 

@@ -1,6 +1,5 @@
 -- The borders of the definitions, computed: each fault one step to either side of its limit, the order of the refusals, the marks.
-use mathlib.Core.Path.{_≡_, refl}
-use mathlib.Core.Bool.{Bool, true, false, _&&_}
+use mathlib.Core.Path.{_≡_}
 use mathlib.Core.List.{List, [], _∷_, _++_}
 use Prim.Native.Nat.{ℕ, zero, suc, _-_, _/_, _^_, _%_, _<_, _≤_}
 use native.Mathlib.Omega.{arith}
@@ -12,7 +11,7 @@ use Rattle.defs.specs.declared.Prefix.{Prefix}
 use Rattle.defs.specs.declared.Operation.{Operation}
 use Rattle.defs.specs.declared.Operation.the-variants.{Union, CoveringDifference, CoveringUnion}
 use Rattle.defs.specs.Basics.{every}
-use Rattle.defs.specs.Prefix.{leads, before, same, top}
+use Rattle.defs.specs.Prefix.{leads, before, same}
 use Rattle.defs.specs.Pool.{nodeCount}
 use Rattle.defs.specs.Entries.{places}
 use Rattle.defs.specs.Check.{faultFrom, faultOf}

@@ -1,6 +1,6 @@
 -- Document 01's worked cases on the lists A and B: the 13 marked P as one table, under one claim.
 use mathlib.Core.Bool.{Bool, true, false, _&&_}
-use mathlib.Core.List.{List, [], _∷_, _++_, map}
+use mathlib.Core.List.{List, [], _∷_, _++_}
 use Prim.Native.Nat.{ℕ, _+_, _-_, _*_, _/_, _^_}
 use lib.Count.{onesIn}
 use lib.Dec.{T, eqb}

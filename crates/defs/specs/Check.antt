@@ -1,5 +1,5 @@
 -- The pool check: document 01, the faults under "Prefixes and pools".
-use mathlib.Core.Bool.{Bool, not, _&&_, _||_}
+use mathlib.Core.Bool.{not, _&&_, _||_}
 use mathlib.Core.List.{List, [], _∷_, _++_}
 use Prim.Native.Nat.{ℕ, zero, suc, _+_, _-_, _^_, _%_, min}
 use lib.Dec.{leb, ltb, eqb}

@@ -1,15 +1,14 @@
 -- The entries of any words: they ascend strictly and are led by their node's prefix. So do those of a view, which its root leads.
-use mathlib.Core.Path.{_≡_, refl, sym, _∙_, ap, subst}
-use mathlib.Core.Bool.{Bool, true, false}
-use mathlib.Core.List.{List, [], _∷_, _++_, map}
-use Prim.Native.Nat.{ℕ, zero, suc, _+_, _*_, _^_, _≤_, _<_}
+use mathlib.Core.Path.{_≡_, refl, sym, subst}
+use mathlib.Core.List.{List, []}
+use Prim.Native.Nat.{ℕ, zero, suc, _+_, _*_}
 use native.Mathlib.Omega.{arith}
 use Rattle.defs.specs.declared.Prefix.{Prefix}
-use Rattle.defs.specs.Basics.{if_then_else_, keep, each}
+use Rattle.defs.specs.Basics.{keep}
 use Rattle.defs.specs.Prefix.{leads, deeper, top}
-use Rattle.defs.specs.Pool.{dataOf, childOf, firstChild, rank, bit, dataBit}
-use Rattle.defs.specs.Entries.{Entry, Place, dataPlace, childPlace, placesAt, places, heldAt, entriesAt, allEntries, under, view, prefixes}
-use Rattle.defs.specs.Lemmas.{All, nil, more, split, all-keep, all-kept, all-map, keep-map}
+use Rattle.defs.specs.Pool.{dataOf, childOf, bit, dataBit}
+use Rattle.defs.specs.Entries.{Entry, childPlace, places, heldAt, entriesAt, allEntries, under, view, prefixes}
+use Rattle.defs.specs.Lemmas.{All, nil, more, split, all-keep, all-kept, keep-map}
 use Rattle.defs.specs.PrefixLaws.{Whole, whole-top}
 use Rattle.defs.specs.OrderLaws.{Ascends, end, then-after, ascends-keep}
 use Rattle.defs.specs.NodeLaws.{Led, Real, Fits, deeper-none, led, ascends, real}

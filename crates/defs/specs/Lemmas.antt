@@ -1,8 +1,8 @@
 -- Facts on tests and lists that every law uses. Nothing here is about prefixes.
 use mathlib.Core.Path.{_≡_, refl, sym, _∙_, ap}
-use mathlib.Core.Bool.{Bool, true, false, not, _&&_, _||_, true≢false, false≢true}
+use mathlib.Core.Bool.{Bool, true, false, _&&_, _||_, true≢false, false≢true}
 use mathlib.Core.List.{List, [], _∷_, _++_, map, append-assoc}
-use Rattle.defs.specs.Basics.{if_then_else_, keep, any, each}
+use Rattle.defs.specs.Basics.{keep, any, each}
 
 -- a test passes or fails
 pub split : {C : Type 0} (b : Bool) → (b ≡ true → C) → (b ≡ false → C) → C

@@ -1,15 +1,15 @@
 -- What the lists come to: their records ascend strictly, and the cover taken is the longest.
-use mathlib.Core.Path.{_≡_, refl, sym, _∙_, ap}
+use mathlib.Core.Path.{_≡_, refl}
 use mathlib.Core.Bool.{Bool, true, false, not}
 use mathlib.Core.List.{List, [], _∷_, map, List·Memᴰ, List·Memᴰ·head, List·Memᴰ·tail}
 use mathlib.Core.Option.{Option, none, some}
-use Prim.Native.Nat.{ℕ, _≤_}
+use Prim.Native.Nat.{_≤_}
 use native.Mathlib.Omega.{arith}
 use Rattle.defs.specs.declared.Prefix.{Prefix}
 use Rattle.defs.specs.declared.Operation.{Operation}
 use Rattle.defs.specs.declared.Operation.the-variants.{Union, Intersection, Difference, CoveringDifference, CoveringUnion}
-use Rattle.defs.specs.Basics.{if_then_else_, keep}
-use Rattle.defs.specs.Prefix.{leads, before}
+use Rattle.defs.specs.Basics.{keep}
+use Rattle.defs.specs.Prefix.{leads}
 use Rattle.defs.specs.Entries.{Entry, prefixes}
 use Rattle.defs.specs.Lists.{Record, plain, covered, leftOnly, find, isIn, isLed, longest, allOf, recordsOf}
 use Rattle.defs.specs.Lemmas.{All, nil, more, split, not-both, map-map, map-ext, keep-map}

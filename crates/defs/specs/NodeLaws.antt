@@ -1,7 +1,7 @@
 -- One node: what its places hold ascends strictly, and is led by the places' prefixes.
-use mathlib.Core.Path.{_≡_, refl, sym, _∙_, ap, subst}
-use mathlib.Core.Bool.{Bool, true, false}
-use mathlib.Core.List.{List, [], _∷_, _++_, map, append-nil}
+use mathlib.Core.Path.{_≡_, sym, ap, subst}
+use mathlib.Core.Bool.{true}
+use mathlib.Core.List.{List, [], _++_, append-nil}
 use Prim.Native.Nat.{ℕ, zero, suc, _+_, _*_, _-_, _^_, _<_, _≤_}
 use native.Mathlib.Omega.{arith}
 use lib.Dec.{ltb}
@@ -9,10 +9,10 @@ use borrow.Author.Tests.{ltb-true, ltb-false}
 use Rattle.defs.specs.declared.Prefix.{Prefix}
 use Rattle.defs.specs.Basics.{each}
 use Rattle.defs.specs.Prefix.{leads, before, deeper}
-use Rattle.defs.specs.Entries.{Entry, Place, dataPlace, childPlace, placesAt, places, prefixes}
-use Rattle.defs.specs.Lemmas.{All, nil, more, split, all-imp, all-append, map-append, each-append}
+use Rattle.defs.specs.Entries.{Entry, Place, dataPlace, childPlace, placesAt, prefixes}
+use Rattle.defs.specs.Lemmas.{All, split, all-imp, all-append, map-append, each-append}
 use Rattle.defs.specs.PrefixLaws.{Whole, prefix-eq, low, high, leads-self, leads-trans, leads-low, leads-high, whole-low, whole-high, low-high, before-below}
-use Rattle.defs.specs.OrderLaws.{Ascends, end, ascends-append}
+use Rattle.defs.specs.OrderLaws.{Ascends, ascends-append}
 
 -- everything in a list of entries is led by q
 abbrev pub Led : Prefix → List Entry → Type 0

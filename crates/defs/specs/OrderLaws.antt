@@ -1,13 +1,13 @@
 -- Strictly ascending lists of prefixes: a merge is one, with the members of both; and such a list is fixed by its members.
 use mathlib.Core.Path.{_≡_, refl, sym, _∙_, ap}
 use mathlib.Core.Bool.{Bool, true, false, _&&_, _||_, or-assoc, and-false}
-use mathlib.Core.List.{List, [], _∷_, _++_, map}
+use mathlib.Core.List.{List, [], _∷_, _++_}
 use Rattle.defs.specs.declared.Prefix.{Prefix}
-use Rattle.defs.specs.Basics.{if_then_else_, keep, any}
+use Rattle.defs.specs.Basics.{keep, any}
 use Rattle.defs.specs.Prefix.{before, same}
 use Rattle.defs.specs.Lists.{put, merge}
 use Rattle.defs.specs.Lemmas.{All, nil, more, split, not-both, all-imp, all-append, all-keep}
-use Rattle.defs.specs.PrefixLaws.{same-self, same-says, before-trans, before-asym, before-irrefl, before-total}
+use Rattle.defs.specs.PrefixLaws.{same-self, same-says, before-trans, before-irrefl, before-total}
 
 -- each of a list comes before all that follow it
 pub data Ascends : List Prefix → Type 0 where

@@ -1,20 +1,20 @@
 -- Demand 1 on the definitions: each number is given exactly when its row holds and no earlier row does, and a refused call leaves every
 -- buffer as it was.
-use mathlib.Core.Path.{_≡_, refl, sym, _∙_, ap}
-use mathlib.Core.Bool.{Bool, true, false, not, _&&_, _||_}
-use mathlib.Core.List.{List, [], _∷_, map}
+use mathlib.Core.Path.{_≡_, refl, sym}
+use mathlib.Core.Bool.{Bool, true, false, not, _&&_}
+use mathlib.Core.List.{List, [], _∷_, _++_, map}
 use Prim.Native.Nat.{ℕ, _<_}
 use native.Mathlib.Omega.{arith}
 use lib.Dec.{eqb}
 use lib.ListN.{length}
-use borrow.Author.Tests.{eqb-true, eqb-false, eq-eqb, ne-eqb}
+use borrow.Author.Tests.{eqb-true, eqb-false, ne-eqb}
 use Rattle.defs.specs.declared.Answer.{Answer}
 use Rattle.defs.specs.declared.Operation.{Operation}
 use Rattle.defs.specs.Basics.{if_then_else_, any, each}
 use Rattle.defs.specs.Lists.{recordsOf, wordsOf}
 use Rattle.defs.specs.Tidy.{nodesOf, tidyPool, tidyValues}
 use Rattle.defs.specs.Outcome.{Row, Side, firstOf, written, entriesOf, sideRows, listRows, listOutcome, equalOutcome, tidyRows, tidyOutcome, checkRows, checkOutcome}
-use Rattle.defs.specs.Lemmas.{split, not-both}
+use Rattle.defs.specs.Lemmas.{All, nil, more, split, not-both}
 
 -- the number of a row
 abbrev pub numberOf : Row → ℕ
@@ -29,6 +29,16 @@ pub data FirstHolds (r : Row) : List Row → Type 0 where
 pub first-answer : {r : Row} {rs : List Row} (done : ℕ) → FirstHolds r rs → firstOf rs done ≡ r .refusal
 first-answer done (at-once h) = rw h
 first-answer done (after h k) = rw h (first-answer done k)
+
+-- where a row holds, more rows behind change nothing
+pub first-stays : (rs ts : List Row) (d : ℕ) → (firstOf rs 0 .number ≡ 0 → ⊥) → firstOf (rs ++ ts) d ≡ firstOf rs 0
+first-stays [] ts d h = absurd (h refl)
+first-stays (r ∷ rs) ts d h = split (r .holds) (λ e. rw e) (λ e. rw e (first-stays rs ts d (rw e at h)))
+
+-- where none holds, the rows behind decide
+pub first-passes : (rs ts : List Row) (d : ℕ) → All (λ r. r .holds ≡ false) rs → firstOf (rs ++ ts) d ≡ firstOf ts d
+first-passes [] ts d nil = refl
+first-passes (r ∷ rs) ts d (more h hs) = rw h (first-passes rs ts d hs)
 
 -- the row of number n holds, and no row before it does, as a test
 abbrev pub givenBy : List Row → ℕ → Bool

@@ -1,6 +1,6 @@
 -- The words of a pool: document 01, "Prefixes and pools". Node i has the four words from 4 * i on.
 use mathlib.Core.Bool.{Bool}
-use mathlib.Core.List.{List, [], _∷_}
+use mathlib.Core.List.{List}
 use Prim.Native.Nat.{ℕ, _+_, _-_, _*_, _/_, _%_, _^_}
 use lib.Dec.{eqb}
 use lib.Count.{onesIn}

@@ -1,10 +1,8 @@
 -- The places that each list wants, as bitmaps: they pick, place by place, what the walk's definition wants.
-use mathlib.Core.Path.{_≡_, refl, sym, _∙_, ap, ap₂}
-use mathlib.Core.Bool.{Bool, true, false, not, _&&_, _||_}
-use mathlib.Core.List.{List, [], _∷_}
-use Prim.Native.Nat.{ℕ, _+_, _*_}
+use mathlib.Core.Path.{_≡_, refl}
+use mathlib.Core.Bool.{Bool, not, _&&_, _||_}
+use mathlib.Core.List.{List}
 use lib.Bits.{bitAnd, bitOr, bitXor}
-use Rattle.defs.specs.Basics.{if_then_else_}
 use Rattle.defs.specs.Pool.{dataBit}
 use Rattle.defs.specs.Entries.{Place, dataPlace, childPlace}
 use Rattle.defs.specs.Tidy.{wordOf}

@@ -1,19 +1,18 @@
 -- Where the walk of a covering difference starts: at the left root's node, with what aligning the right view found.
-use mathlib.Core.Path.{_≡_, refl, sym, _∙_, ap, ap₂, subst}
-use mathlib.Core.List.{List, []}
-use Prim.Native.Nat.{ℕ, zero, suc, _+_, _*_, _-_, _/_, _%_, _^_, _≤_, _<_}
+use mathlib.Core.Path.{_≡_, refl, sym, _∙_, ap, subst}
+use mathlib.Core.List.{List}
+use Prim.Native.Nat.{ℕ, _+_, _*_, _-_, _/_, _^_, _≤_, _<_}
 use native.Mathlib.Omega.{arith}
 use Rattle.defs.specs.declared.Prefix.{Prefix}
 use Rattle.defs.specs.declared.Operation.the-variants.{CoveringDifference}
 use Rattle.defs.specs.Basics.{each}
 use Rattle.defs.specs.Pool.{nodeCount}
-use Rattle.defs.specs.Entries.{Place, places}
-use Rattle.defs.specs.Lists.{Record, recordsOf}
+use Rattle.defs.specs.Entries.{places}
+use Rattle.defs.specs.Lists.{recordsOf}
 use Rattle.defs.specs.Lemmas.{nil}
 use Rattle.defs.specs.Outcome.{Side, entriesOf}
 use Rattle.theory.specs.declared.Node.{Node}
 use Rattle.theory.specs.declared.Node.the-variants as node
-use Rattle.theory.specs.declared.Cover.the-variants.{Nothing}
 use Rattle.theory.specs.declared.Covers.{Covers}
 use Rattle.theory.specs.declared.Level.{Level}
 use Rattle.theory.specs.Sides.{sideEntries}

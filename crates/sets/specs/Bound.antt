@@ -1,9 +1,9 @@
 -- A pool without a fault has at most as many entries as values, so that its last node says how many records a list may have.
-use mathlib.Core.Path.{_≡_, refl, sym, _∙_, ap, subst}
+use mathlib.Core.Path.{_≡_, refl, sym, _∙_, ap}
 use mathlib.Core.Bool.{Bool, true, false, not}
-use mathlib.Core.List.{List, [], _∷_, _++_, map}
-use mathlib.Core.Option.{Option, none, some}
-use Prim.Native.Nat.{ℕ, zero, suc, _+_, _*_, _-_, _/_, _%_, _^_, _≤_, _<_}
+use mathlib.Core.List.{List, [], _∷_, _++_}
+use mathlib.Core.Option.{none, some}
+use Prim.Native.Nat.{ℕ, zero, suc, _+_, _*_, _-_, _/_, _%_, _^_, _≤_}
 use native.Mathlib.Omega.{arith}
 use native.Mathlib.Nat.{le-trans, mod-lt, zero-add, mul-add, add-mul, mul-assoc}
 use borrow.Author.Tests.{eqb-true, eqb-false}
@@ -14,7 +14,7 @@ use Rattle.defs.specs.declared.Operation.the-variants.{Union, Intersection, Dif
 use Rattle.defs.specs.Basics.{if_then_else_, keep, each}
 use Rattle.defs.specs.Prefix.{leads, before, deeper, top}
 use Rattle.defs.specs.Pool.{nodeCount, dataOf, childOf, firstChild, bit, rank, ones, dataBit}
-use Rattle.defs.specs.Entries.{Entry, Place, dataPlace, childPlace, placesAt, places, heldAt, entriesAt, allEntries, view, prefixes, under}
+use Rattle.defs.specs.Entries.{Entry, Place, dataPlace, childPlace, placesAt, places, heldAt, entriesAt, allEntries, prefixes}
 use Rattle.defs.specs.Check.{poolLimit}
 use Rattle.defs.specs.Lists.{put, merge, allOf, find, isIn, isLed, longest, plain, covered, leftOnly, recordsOf}
 use Rattle.defs.specs.Outcome.{Side, entriesOf}

@@ -17,6 +17,7 @@ use Rattle.defs.specs.Lists.{sameKeys}
 use Rattle.defs.specs.Lemmas.{split}
 use Rattle.defs.specs.PrefixLaws.{Whole}
 use Rattle.defs.specs.Outcome.{Side, answer, firstOf, sideRows, entriesOf, equalOutcome}
+use Rattle.defs.specs.OutcomeLaws.{first-stays, first-passes}
 use Rattle.bits.specs.Words.{commonLen}
 use Rattle.bits.specs.Places.{placePrefix}
 use Rattle.bits.specs.PlaceLaws.{place-prefix, child-place}
@@ -34,7 +35,7 @@ use Rattle.view.specs.Descent.{cutTo, nodeDown}
 use Rattle.walk.specs.declared.Roots.{Roots}
 use Rattle.rules.specs.BitLaws.{bit-or}
 use Rattle.rules.specs.Wanted.{eitherOf}
-use Rattle.sets.specs.Listing.{sideOf, Passed, first-stays, first-passes, passed-rows, depth-short, common-entering, common-left, common-right}
+use Rattle.sets.specs.Listing.{sideOf, Passed, passed-rows, depth-short, common-entering, common-left, common-right}
 use Rattle.sets.specs.SameKeys.{kept, childOn, equalAt, whole-child, equal-says}
 
 -- the children of two nodes at place c hold the same prefixes

@@ -1,13 +1,13 @@
 -- A list call from its tests to its records: the refusal table, and where the walk starts.
 use mathlib.Core.Path.{_≡_, refl, sym, _∙_, ap, ap₂, subst}
-use mathlib.Core.Bool.{Bool, true, false, not, _||_}
+use mathlib.Core.Bool.{true, false, _||_}
 use mathlib.Core.List.{List, [], _∷_, _++_, append-nil}
-use Prim.Native.Nat.{ℕ, zero, suc, _+_, _*_, _-_, _/_, _%_, _^_, _≤_, _<_}
+use Prim.Native.Nat.{ℕ, zero, suc, _+_, _*_, _-_, _/_, _^_, _≤_, _<_}
 use native.Mathlib.Omega.{arith}
 use native.Mathlib.Nat.{mul-div-right}
 use lib.Dec.{eqb, ltb}
 use lib.ListN.{length, drop}
-use borrow.Author.Tests.{eqb-true, eqb-false, eq-eqb, ne-eqb, lt-ltb, le-ltb, ltb-true, ltb-false, not-true, not-false}
+use borrow.Author.Tests.{eqb-true, eqb-false, lt-ltb, le-ltb, ltb-false}
 use Rattle.defs.specs.declared.Prefix.{Prefix}
 use Rattle.defs.specs.declared.Answer.{Answer}
 use Rattle.defs.specs.declared.Operation.{Operation}
@@ -16,14 +16,14 @@ use Rattle.defs.specs.Basics.{if_then_else_}
 use Rattle.defs.specs.Pool.{nodeCount, dataOf, firstValue, ones}
 use Rattle.defs.specs.Check.{poolLimit, faultOf}
 use Rattle.defs.specs.Lists.{Record, recordWords, recordsOf}
-use Rattle.defs.specs.Lemmas.{All, nil, more, split, not-both}
+use Rattle.defs.specs.Lemmas.{All, nil, more, split}
 use Rattle.defs.specs.Outcome
-use Rattle.defs.specs.Outcome.{Row, row, answer, firstOf, Side, entriesOf, sideRows, listRows, roomRow, written, Listed, listOutcome, checkOutcome}
-use Rattle.defs.specs.OutcomeLaws.{numberOf, refused-keeps}
-use Rattle.defs.specs.PrefixLaws.{cut, first-agree}
+use Rattle.defs.specs.Outcome.{Row, answer, firstOf, Side, entriesOf, sideRows, listRows, roomRow, written, Listed, listOutcome, checkOutcome}
+use Rattle.defs.specs.OutcomeLaws.{first-stays, first-passes, refused-keeps}
+use Rattle.defs.specs.PrefixLaws.{cut}
 use Rattle.bits.specs.Words.{commonLen}
 use Rattle.bits.specs.CommonLaws.{common-le, common-says}
-use Rattle.pool.specs.Sound.{Formed, formed, valuesBefore}
+use Rattle.pool.specs.Sound.{formed, valuesBefore}
 use Rattle.pool.specs.Answers.{zero-says, one-says, one-of, two-says, two-else}
 use Rattle.theory.specs.declared.Node.{Node}
 use Rattle.theory.specs.declared.Level.{Level}
@@ -45,16 +45,6 @@ abbrev pub sideOf : List ℕ → Prefix → Side
 sideOf w root = record { pool = w; root = root }
 
 -- ---- the rows of the table
-
--- where a row holds, more rows behind change nothing
-pub first-stays : (rs ts : List Row) (d : ℕ) → (firstOf rs 0 .number ≡ 0 → ⊥) → firstOf (rs ++ ts) d ≡ firstOf rs 0
-first-stays [] ts d h = absurd (h refl)
-first-stays (r ∷ rs) ts d h = split (r .holds) (λ e. rw e) (λ e. rw e (first-stays rs ts d (rw e at h)))
-
--- where none holds, the rows behind decide
-pub first-passes : (rs ts : List Row) (d : ℕ) → All (λ r. r .holds ≡ false) rs → firstOf (rs ++ ts) d ≡ firstOf ts d
-first-passes [] ts d nil = refl
-first-passes (r ∷ rs) ts d (more h hs) = rw h (first-passes rs ts d hs)
 
 module _ (width : ℕ) (l r : Side) where
   -- what the tests of a call with two sides come to

@@ -20,6 +20,7 @@ use Rattle.defs.specs.OrderLaws.{end}
 use Rattle.defs.specs.NodeLaws.{Fits}
 use Rattle.defs.specs.EntryLaws.{sound, sound-under}
 use Rattle.defs.specs.Outcome.{Side}
+use Rattle.defs.specs.DeeperLaws.{whole-deeper}
 use Rattle.bits.specs.Places.{placeLen, placeValue}
 use Rattle.bits.specs.PlaceLaws.{made, place-len-below}
 use Rattle.theory.specs.declared.Node.{Node}
@@ -30,7 +31,6 @@ use Rattle.theory.specs.declared.Cover.the-variants.{Nothing}
 use Rattle.theory.specs.Picks.{Good, picks, list-picks}
 use Rattle.theory.specs.Nodes.{abovePlace, placeRecords}
 use Rattle.theory.specs.Sides.{sideHeld, sideEntries, childIn, valueIn, entryAt, side-fits, side-data, side-child}
-use Rattle.theory.specs.Down.{whole-deeper}
 use Rattle.theory.specs.Contexts.{Shorter, context}
 use Rattle.theory.specs.StepLaws.{shorter-above}
 use Rattle.theory.specs.Unwanted.{InNode, placeBits, places-in-node}

@@ -1,28 +1,25 @@
 -- Aligning the right view with the left root: on the way down to it nothing is listed, and where the right side covers the way nothing is
 -- listed at all.
-use mathlib.Core.Path.{_≡_, refl, sym, _∙_, ap, subst}
-use mathlib.Core.Bool.{Bool, true, false, not, _&&_, _||_, and-false}
-use mathlib.Core.List.{List, [], _∷_, _++_}
-use Prim.Native.Nat.{ℕ, zero, suc, _+_, _*_, _-_, _/_, _%_, _^_, _≤_, _<_}
+use mathlib.Core.Path.{_≡_, _∙_}
+use mathlib.Core.Bool.{true, and-false}
+use mathlib.Core.List.{[]}
+use Prim.Native.Nat.{ℕ, suc, _+_, _*_, _-_, _/_, _≤_, _<_}
 use native.Mathlib.Omega.{arith}
 use Rattle.defs.specs.declared.Prefix.{Prefix}
-use Rattle.defs.specs.declared.Operation.{Operation}
-use Rattle.defs.specs.declared.Operation.the-variants.{Union, Intersection, Difference, CoveringDifference, CoveringUnion}
-use Rattle.defs.specs.Basics.{if_then_else_, each}
+use Rattle.defs.specs.declared.Operation.the-variants.{CoveringDifference}
 use Rattle.defs.specs.Prefix.{leads, deeper}
-use Rattle.defs.specs.Entries.{Place, dataPlace, childPlace, places}
-use Rattle.defs.specs.Lists.{Record}
+use Rattle.defs.specs.Entries.{dataPlace, childPlace}
 use Rattle.defs.specs.PrefixLaws.{Whole}
+use Rattle.defs.specs.DeeperLaws.{whole-deeper}
 use Rattle.theory.specs.declared.Node.{Node}
-use Rattle.theory.specs.declared.Cover.{Cover}
-use Rattle.theory.specs.declared.Cover.the-variants.{Nothing, Of}
+use Rattle.theory.specs.declared.Cover.the-variants.{Nothing}
 use Rattle.theory.specs.declared.Level.{Level}
 use Rattle.theory.specs.Sides.{childIn, side-data, side-child}
-use Rattle.theory.specs.Down.{whole-deeper, only-child, short, no-data, no-child}
+use Rattle.theory.specs.Down.{only-child, short, no-data, no-child}
 use Rattle.theory.specs.Steps
 use Rattle.theory.specs.StepLaws.{Free}
-use Rattle.theory.specs.Unwanted.{InNode, leftList, left-empty, unwanted}
-use Rattle.theory.specs.Walk.{LevelOk, enter-rest, child-rest}
+use Rattle.theory.specs.Unwanted.{leftList, left-empty, unwanted}
+use Rattle.theory.specs.Walk.{enter-rest, child-rest}
 use Rattle.theory.specs.Start.{first, start-ok}
 
 module _ (j : Steps.Job) (is-left : leftList (j .op) ≡ true) (p : Prefix) (w : Whole p) (e : p .len + 5 * suc ((60 - p .len) / 5) ≡ 65) (a b : Node)

@@ -1,26 +1,25 @@
 -- Entries above a node: only their length and value matter, and to the lists without covers not even these.
 use mathlib.Core.Path.{_≡_, refl, sym, _∙_, ap}
-use mathlib.Core.Bool.{Bool, true, false, _&&_, _||_, not}
+use mathlib.Core.Bool.{true, false}
 use mathlib.Core.List.{List, [], _∷_, _++_, map}
 use mathlib.Core.Option.{Option, none, some}
-use Prim.Native.Nat.{ℕ, zero, suc, _+_, _/_, _≤_, _<_}
+use Prim.Native.Nat.{ℕ, _+_, _≤_, _<_}
 use native.Mathlib.Omega.{arith}
-use lib.Dec.{eqb}
-use borrow.Author.Tests.{eq-eqb, ne-eqb, eqb-true}
+use borrow.Author.Tests.{ne-eqb}
 use Rattle.defs.specs.declared.Prefix.{Prefix}
 use Rattle.defs.specs.declared.Operation.{Operation}
 use Rattle.defs.specs.declared.Operation.the-variants.{Union, Intersection, Difference, CoveringDifference, CoveringUnion}
-use Rattle.defs.specs.Basics.{if_then_else_, keep, any, each}
-use Rattle.defs.specs.Prefix.{leads, deeper}
-use Rattle.defs.specs.Entries.{Entry, Place, dataPlace, childPlace, prefixes}
-use Rattle.defs.specs.Lists.{Record, valueOf, coverOf, noCover, allOf, isIn, isLed, longest}
-use Rattle.defs.specs.Lemmas.{All, nil, more, split, not-both, all-imp, all-both, each-on}
+use Rattle.defs.specs.Basics.{each}
+use Rattle.defs.specs.Prefix.{leads}
+use Rattle.defs.specs.Entries.{Entry, prefixes}
+use Rattle.defs.specs.Lists.{Record, allOf, isIn, isLed, longest}
+use Rattle.defs.specs.Lemmas.{All, split, not-both, all-imp, all-both, each-on}
 use Rattle.defs.specs.PrefixLaws.{Whole}
 use Rattle.defs.specs.OrderLaws.{all-merge}
 use Rattle.theory.specs.declared.Cover.{Cover}
 use Rattle.theory.specs.declared.Cover.the-variants.{Nothing, Of}
-use Rattle.theory.specs.Covering.{own, tagOf, coverAt, recordAt, covering}
-use Rattle.theory.specs.Picks.{Good, pick, picks, takes, made, own-in, in-own, led-in, whole-of}
+use Rattle.theory.specs.Covering.{own, recordAt, covering}
+use Rattle.theory.specs.Picks.{Good, pick, picks, own-in, in-own, led-in, whole-of}
 
 -- an entry above as far as it matters
 abbrev pub coverFor : Option Entry → Cover

@@ -6,13 +6,12 @@ use mathlib.Core.Option.{Option, none, some}
 use Prim.Native.Nat.{ℕ}
 use lib.Dec.{eqb}
 use Rattle.defs.specs.declared.Prefix.{Prefix}
-use Rattle.defs.specs.Basics.{if_then_else_}
 use Rattle.defs.specs.Prefix.{leads, before}
 use Rattle.defs.specs.Entries.{Entry, prefixes}
 use Rattle.defs.specs.Lists.{Record, valueOf, coverOf, noCover, put, merge, longest}
 use Rattle.defs.specs.Lemmas.{All, nil, more, split, not-both, all-imp, map-append, map-on}
 use Rattle.defs.specs.PrefixLaws.{Whole, before-asym, leads-trans, leads-order, leads-chain}
-use Rattle.defs.specs.OrderLaws.{all-put, all-merge}
+use Rattle.defs.specs.OrderLaws.{all-merge}
 
 -- the longest entry that leads p is p's own
 abbrev pub own : Prefix → Option Entry → Bool

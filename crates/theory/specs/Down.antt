@@ -1,46 +1,25 @@
 -- Going down: where a child's prefix leads the root, the view lies in that child alone.
-use mathlib.Core.Path.{_≡_, refl, sym, _∙_, ap, subst}
-use mathlib.Core.Bool.{Bool, true, false, _&&_, _||_, and-false}
-use mathlib.Core.List.{List, [], _∷_, _++_, append-nil}
+use mathlib.Core.Path.{_≡_, refl, sym, _∙_, ap}
+use mathlib.Core.Bool.{true, false, and-false}
+use mathlib.Core.List.{List, [], _++_, append-nil}
 use Prim.Native.Nat.{ℕ, zero, suc, _+_, _*_, _-_, _/_, _%_, _^_, _≤_, _<_}
 use native.Mathlib.Omega.{arith}
-use native.Mathlib.Nat.{div-add-mod', mod-lt, mul-assoc, add-mul, div-one}
+use native.Mathlib.Nat.{div-add-mod', mod-lt, div-one}
 use lib.Dec.{eqb}
-use lib.Pow.{pow-pos, pow-add, shl-shr, shr-shr, high as pow-high}
+use lib.Pow.{shr-shr}
 use borrow.Author.Tests.{eqb-true, eqb-false, eq-eqb, ne-eqb}
 use Rattle.defs.specs.declared.Prefix.{Prefix}
-use Rattle.defs.specs.Basics.{if_then_else_, keep, each}
+use Rattle.defs.specs.Basics.{if_then_else_, each}
 use Rattle.defs.specs.Prefix.{first, leads, deeper}
 use Rattle.defs.specs.Pool.{dataOf, childOf, bit, dataBit}
-use Rattle.defs.specs.Entries.{Entry, Place, dataPlace, childPlace, placesAt, places, under}
-use Rattle.defs.specs.Lemmas.{split, not-both, is-false, each-append}
-use Rattle.defs.specs.PrefixLaws.{Whole, cut, cut-at, leads-of, leads-len, leads-first, leads-trans, leads-same, shorter}
+use Rattle.defs.specs.Entries.{Place, dataPlace, childPlace, placesAt, places}
+use Rattle.defs.specs.Lemmas.{split, is-false, each-append}
+use Rattle.defs.specs.PrefixLaws.{Whole, leads-of, leads-len, leads-first, leads-trans, leads-same, shorter}
+use Rattle.defs.specs.DeeperLaws.{deeper-first, deeper-same, whole-deeper}
 use Rattle.theory.specs.declared.Node.{Node}
 use Rattle.theory.specs.declared.Node.the-variants.{Absent, At}
-use Rattle.theory.specs.declared.Value.the-variants.{Missing, Is}
-use Rattle.theory.specs.Sides.{sideHeld, sideEntries, onPath, childIn, valueIn, entryAt, side-places, side-data, side-child}
-
-module _ (p : Prefix) (w : Whole p) (n : ℕ) (short : p .len + n ≤ 64) where
-  -- the key by its first bits
-  shape : p .key ≡ first (p .len) (p .key) * 2 ^ n * 2 ^ (64 - (p .len + n))
-  unfolding cut
-  shape =
-      let e : 64 - p .len ≡ n + (64 - (p .len + n)) = omega arith in
-      sym w ∙ ap (λ (k : ℕ). first (p .len) (p .key) * 2 ^ k) e ∙ ap (first (p .len) (p .key) *_) (pow-add 2 n _) ∙ sym (mul-assoc (first (p .len) (p .key)) (2 ^ n) _)
-
-  shape-deeper : (v : ℕ) → deeper p n v .key ≡ (first (p .len) (p .key) * 2 ^ n + v) * 2 ^ (64 - (p .len + n)) + 0
-  shape-deeper v = omega (arith, shape, add-mul (first (p .len) (p .key) * 2 ^ n) v (2 ^ (64 - (p .len + n))))
-
-  pub whole-deeper : (v : ℕ) → Whole (deeper p n v)
-  whole-deeper v =
-      ap (cut (p .len + n)) (shape-deeper v) ∙ cut-at (p .len + n) _ 0 (pow-pos (64 - (p .len + n))) ∙ omega (arith, shape-deeper v)
-
-  -- the first bits of a place's prefix
-  pub deeper-first : (v : ℕ) → first (p .len + n) (deeper p n v .key) ≡ first (p .len) (p .key) * 2 ^ n + v
-  deeper-first v = ap (_/ 2 ^ (64 - (p .len + n))) (shape-deeper v) ∙ pow-high _ (64 - (p .len + n)) (pow-pos (64 - (p .len + n)))
-
-  pub deeper-same : (u v : ℕ) → deeper p n u ≡ deeper p n v → u ≡ v
-  deeper-same u v e = omega (arith, deeper-first u, deeper-first v, ap (λ (q : Prefix). first (p .len + n) (q .key)) e)
+use Rattle.theory.specs.declared.Value.the-variants.{Missing}
+use Rattle.theory.specs.Sides.{sideHeld, sideEntries, onPath, childIn, valueIn, side-places, side-data, side-child}
 
 -- the next n bits of a key, after the first d
 abbrev pub nextBits : ℕ → ℕ → ℕ → ℕ

@@ -1,11 +1,11 @@
 -- The loops over the walk's stack: one invariant and one turn for counting and for writing.
 use mathlib.Core.Path.{_≡_, refl, sym, _∙_, ap, ap₂, subst}
 use mathlib.Core.List.{List, [], _∷_, _++_, append-assoc, append-nil}
-use Prim.Native.Nat.{ℕ, zero, suc, _+_, _*_, _-_, _≤_, _<_}
+use Prim.Native.Nat.{ℕ, suc, _+_, _*_, _-_, _≤_, _<_}
 use native.Mathlib.Omega.{arith}
-use lib.ListN.{length, getD, set, take, drop, replicate, length-append, length-replicate, length-drop, drop-of-length-le}
+use lib.ListN.{length, getD, take, drop, replicate, length-append, length-replicate, length-drop, drop-of-length-le}
 use lib.Seq.{take-at, drop-at, take-all, drop-drop}
-use borrow.Rule.Slice.PartMut.{putMid, midOf, postOf, same-len-mid}
+use borrow.Rule.Slice.PartMut.{putMid, midOf, postOf}
 use Rattle.defs.specs.declared.Prefix.{Prefix}
 use Rattle.defs.specs.Basics.{each}
 use Rattle.defs.specs.Lists.{Record, wordsOf, recordWords}
@@ -14,7 +14,7 @@ use Rattle.theory.specs.declared.Level.{Level}
 use Rattle.theory.specs.declared.Step.{Step}
 use Rattle.theory.specs.declared.Step.the-variants as step
 use Rattle.theory.specs.Steps
-use Rattle.theory.specs.Walk.{LevelOk, StepOk, StepKeeps, step-keeps, levelCost}
+use Rattle.theory.specs.Walk.{LevelOk, StepOk, StepKeeps, step-keeps}
 use Rattle.theory.specs.Stack.{given, stackAfter, levelsAfter, Leaves, stackRest, stackCost, Each, after-size, after-each, after-rest, after-cost}
 
 -- Safe: what code needs of a level; each step keeps it.

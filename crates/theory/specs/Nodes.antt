@@ -1,19 +1,19 @@
 -- Two nodes of one prefix: their covering union is, place by place, that of what the places hold, under the longest entries above each place.
-use mathlib.Core.Path.{_≡_, refl, sym, _∙_, ap, subst}
-use mathlib.Core.Bool.{Bool, true, false}
-use mathlib.Core.List.{List, [], _∷_, _++_, map, append-nil}
-use mathlib.Core.Option.{Option, none, some}
+use mathlib.Core.Path.{_≡_, refl, sym, _∙_, subst}
+use mathlib.Core.Bool.{true}
+use mathlib.Core.List.{List, _++_, append-nil}
+use mathlib.Core.Option.{Option}
 use Prim.Native.Nat.{ℕ, zero, suc, _+_, _*_, _/_, _<_, _≤_}
 use native.Mathlib.Omega.{arith}
 use native.Mathlib.Nat.{mul-div-right, mul-add-div}
 use Rattle.defs.specs.declared.Prefix.{Prefix}
 use Rattle.defs.specs.Basics.{each}
-use Rattle.defs.specs.Prefix.{leads, before, deeper}
+use Rattle.defs.specs.Prefix.{leads, deeper}
 use Rattle.defs.specs.Entries.{Entry, Place, dataPlace, childPlace, placesAt, places, prefixes}
 use Rattle.defs.specs.Lists.{Record, longest}
 use Rattle.defs.specs.Lemmas.{All, all-imp, all-both, all-append, map-append, each-append}
 use Rattle.defs.specs.PrefixLaws.{Whole, low, high, leads-self, before-irrefl, before-asym, whole-high, low-high, low-not-high}
-use Rattle.defs.specs.NodeLaws.{Led, Real, Below, Fits, whole-deeper-low, whole-deeper-high, deeper-none, by-levels, tree, halves, tree-step, tree-last, led, real, led-low, led-high, led-halves}
+use Rattle.defs.specs.NodeLaws.{Led, Real, Below, Fits, whole-deeper-low, whole-deeper-high, deeper-none, by-levels, tree, halves, tree-step, led, real, led-low, led-high, led-halves}
 use Rattle.theory.specs.Covering.{covering, longest-none, seam}
 
 -- the longest of a node's own entries above the n bits of value v, or else c

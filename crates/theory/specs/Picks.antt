@@ -1,22 +1,22 @@
 -- Each list is what it picks of the covering union's records. So one walk serves all five.
 use mathlib.Core.Path.{_≡_, refl, sym, _∙_, ap}
 use mathlib.Core.Bool.{Bool, true, false, _&&_, _||_, not, or-true}
-use mathlib.Core.List.{List, [], _∷_, _++_, map}
+use mathlib.Core.List.{List, [], _∷_, map}
 use mathlib.Core.Option.{Option, none, some}
-use Prim.Native.Nat.{ℕ, _+_, _%_, _/_, _<_, _≤_}
+use Prim.Native.Nat.{ℕ, _%_, _/_, _≤_}
 use native.Mathlib.Omega.{arith}
 use lib.Dec.{eqb}
 use borrow.Author.Tests.{eq-eqb, ne-eqb, eqb-true, not-true}
 use Rattle.defs.specs.declared.Prefix.{Prefix}
 use Rattle.defs.specs.declared.Operation.{Operation}
 use Rattle.defs.specs.declared.Operation.the-variants.{Union, Intersection, Difference, CoveringDifference, CoveringUnion}
-use Rattle.defs.specs.Basics.{if_then_else_, keep, any, each}
+use Rattle.defs.specs.Basics.{if_then_else_, keep, each}
 use Rattle.defs.specs.Prefix.{leads, before, same}
 use Rattle.defs.specs.Entries.{Entry, prefixes, view}
-use Rattle.defs.specs.Lists.{Record, recordOf, missing, noCover, valueOf, coverOf, merge, allOf, find, isIn, isLed, longest, plain, covered, leftOnly, recordsOf}
-use Rattle.defs.specs.Lemmas.{All, nil, more, split, not-both, all-imp, all-both, all-keep, all-kept, all-map, all-unmap, map-map, map-on, keep-map, keep-on, keep-true, all-true}
+use Rattle.defs.specs.Lists.{Record, missing, noCover, coverOf, allOf, find, isIn, isLed, longest, plain, covered, recordsOf}
+use Rattle.defs.specs.Lemmas.{All, nil, more, split, not-both, all-imp, all-both, all-keep, all-kept, all-unmap, map-map, map-on, keep-map, keep-on, keep-true, all-true}
 use Rattle.defs.specs.PrefixLaws.{Whole, same-self, same-says, leads-self, leads-same, leads-order, before-irrefl}
-use Rattle.defs.specs.OrderLaws.{Ascends, end, then-after, among, all-merge, merge-ascends, among-merge, among-keep, ascends-keep, ascends-unique}
+use Rattle.defs.specs.OrderLaws.{Ascends, then-after, among, all-merge, merge-ascends, among-merge, among-keep, ascends-keep, ascends-unique}
 use Rattle.defs.specs.NodeLaws.{Real}
 use Rattle.defs.specs.EntryLaws.{view-ascends, view-real}
 use Rattle.theory.specs.Covering.{own, tagOf, coverAt, recordAt, covering, longest-none}

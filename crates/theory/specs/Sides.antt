@@ -1,20 +1,20 @@
 -- One side of a walk: a pool, a root, and a node or none. What its places hold, and what lies below a child.
-use mathlib.Core.Path.{_≡_, refl, sym, _∙_, ap, subst}
+use mathlib.Core.Path.{_≡_, refl, _∙_, ap}
 use mathlib.Core.Bool.{Bool, true, false, _&&_, _||_}
-use mathlib.Core.List.{List, [], _∷_, _++_, map}
+use mathlib.Core.List.{List, [], _∷_, _++_}
 use mathlib.Core.Logic.{⊎-elim}
-use Prim.Native.Nat.{ℕ, zero, suc, _+_, _*_, _≤_}
+use Prim.Native.Nat.{ℕ, suc, _+_, _*_}
 use native.Mathlib.Omega.{arith}
 use Rattle.defs.specs.declared.Prefix.{Prefix}
 use Rattle.defs.specs.Basics.{if_then_else_, keep, each}
 use Rattle.defs.specs.Prefix.{leads, deeper}
 use Rattle.defs.specs.Pool.{dataOf, childOf, firstChild, firstValue, bit, rank, dataBit}
-use Rattle.defs.specs.Entries.{Entry, Place, dataPlace, childPlace, places, heldAt, entriesAt, under, prefixes}
-use Rattle.defs.specs.Lemmas.{All, nil, split, not-both, all-imp, all-keep, all-unmap, keep-append, keep-true, keep-false}
+use Rattle.defs.specs.Entries.{Entry, Place, dataPlace, childPlace, places, heldAt, entriesAt, under}
+use Rattle.defs.specs.Lemmas.{nil, split, not-both, all-imp, all-keep, all-unmap, keep-append, keep-true, keep-false}
 use Rattle.defs.specs.PrefixLaws.{Whole, comparable, leads-trans}
 use Rattle.defs.specs.OrderLaws.{end, ascends-keep}
 use Rattle.defs.specs.NodeLaws.{Led, Fits}
-use Rattle.defs.specs.EntryLaws.{Sound, sound, held-fits, prefixes-under}
+use Rattle.defs.specs.EntryLaws.{sound, held-fits, prefixes-under}
 use Rattle.theory.specs.declared.Node.{Node}
 use Rattle.theory.specs.declared.Node.the-variants.{Absent, At}
 use Rattle.theory.specs.declared.Value.{Value}

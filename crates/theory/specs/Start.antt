@@ -1,24 +1,17 @@
 -- Where a walk starts: at two nodes of one prefix under which both views lie. What it has to give there is the whole list.
-use mathlib.Core.Path.{_≡_, refl, sym, _∙_, ap, subst}
-use mathlib.Core.Bool.{Bool, true, false, not, _&&_, _||_}
-use mathlib.Core.List.{List, [], _∷_, _++_}
-use mathlib.Core.Option.{Option, none, some}
-use Prim.Native.Nat.{ℕ, zero, suc, _+_, _*_, _-_, _/_, _%_, _^_, _≤_, _<_}
-use native.Mathlib.Omega.{arith}
+use mathlib.Core.Path.{_≡_, refl, sym, _∙_}
+use mathlib.Core.Option.{none}
+use Prim.Native.Nat.{suc, _+_, _*_, _-_, _/_}
 use Rattle.defs.specs.declared.Prefix.{Prefix}
 use Rattle.defs.specs.declared.Operation.{Operation}
 use Rattle.defs.specs.declared.Operation.the-variants.{Union, Intersection, Difference, CoveringDifference, CoveringUnion}
-use Rattle.defs.specs.Basics.{each}
-use Rattle.defs.specs.Entries.{Entry, Place, places}
-use Rattle.defs.specs.Lists.{Record, recordsOf}
-use Rattle.defs.specs.Outcome.{Side, entriesOf}
+use Rattle.defs.specs.Lists.{recordsOf}
+use Rattle.defs.specs.Outcome.{entriesOf}
 use Rattle.defs.specs.PrefixLaws.{Whole}
 use Rattle.theory.specs.declared.Node.{Node}
 use Rattle.theory.specs.declared.Level.{Level}
-use Rattle.theory.specs.Covering.{covering}
-use Rattle.theory.specs.Picks.{picks, view-good, list-picks}
-use Rattle.theory.specs.Nodes.{placeRecords}
-use Rattle.theory.specs.Sides.{sideHeld, sideEntries}
+use Rattle.theory.specs.Picks.{view-good, list-picks}
+use Rattle.theory.specs.Sides.{sideEntries}
 use Rattle.theory.specs.Steps
 use Rattle.theory.specs.Walk.{LevelOk, by-places, enter-rest, enter-ok}
 

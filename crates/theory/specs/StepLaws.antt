@@ -1,44 +1,34 @@
 -- What a step means: what a level has to give is what the step gives and what is left after it.
-use mathlib.Core.Path.{_≡_, refl, sym, _∙_, ap, subst}
-use mathlib.Core.Bool.{Bool, true, false, not, _&&_, _||_}
-use mathlib.Core.List.{List, [], _∷_, _++_, map, append-nil}
+use mathlib.Core.Path.{_≡_, refl, _∙_, ap, subst}
+use mathlib.Core.Bool.{Bool, true, false, not}
+use mathlib.Core.List.{List, [], _∷_}
 use mathlib.Core.Option.{Option, none, some}
-use Prim.Native.Nat.{ℕ, zero, suc, _+_, _*_, _-_, _/_, _%_, _^_, _≤_, _<_}
+use Prim.Native.Nat.{ℕ, zero, suc, _+_, _-_, _/_, _≤_, _<_}
 use native.Mathlib.Omega.{arith}
-use lib.Count.{trailingZeros}
-use lib.Dec.{eqb, leb}
-use lib.ListN.{length, getD}
-use borrow.Author.Tests.{eq-eqb, ne-eqb, eqb-true, eqb-false, leb-true, leb-false, not-true}
+use borrow.Author.Tests.{eq-eqb, not-true}
 use Rattle.defs.specs.declared.Prefix.{Prefix}
 use Rattle.defs.specs.declared.Operation.{Operation}
 use Rattle.defs.specs.declared.Operation.the-variants.{Union, Intersection, Difference, CoveringDifference, CoveringUnion}
-use Rattle.defs.specs.Basics.{if_then_else_, keep, each}
-use Rattle.defs.specs.Prefix.{leads, before, deeper}
-use Rattle.defs.specs.Entries.{Entry, Place, dataPlace, childPlace, placesAt, places, prefixes}
-use Rattle.defs.specs.Lists.{Record, put, longest, valueOf, coverOf, noCover, missing}
-use Rattle.defs.specs.Lemmas.{All, nil, more, split, not-both, and-left, and-right, all-imp, each-append}
+use Rattle.defs.specs.Prefix.{deeper}
+use Rattle.defs.specs.Entries.{Entry, Place}
+use Rattle.defs.specs.Lists.{Record, put, longest, valueOf, coverOf, noCover}
+use Rattle.defs.specs.Lemmas.{not-both, and-right}
 use Rattle.defs.specs.Outcome.{Side}
-use Rattle.defs.specs.PrefixLaws.{Whole, leads-self, leads-len, before-irrefl}
-use Rattle.defs.specs.NodeLaws.{Fits}
+use Rattle.defs.specs.PrefixLaws.{leads-self, before-irrefl}
 use Rattle.theory.specs.declared.Node.{Node}
-use Rattle.theory.specs.declared.Node.the-variants.{Absent, At}
 use Rattle.theory.specs.declared.Value.{Value}
 use Rattle.theory.specs.declared.Value.the-variants.{Missing, Is}
 use Rattle.theory.specs.declared.Cover.{Cover}
 use Rattle.theory.specs.declared.Cover.the-variants.{Nothing, Of}
-use Rattle.theory.specs.declared.Covers.{Covers}
-use Rattle.theory.specs.declared.Item.{Item}
-use Rattle.theory.specs.declared.Item.the-variants.{Left, Right, Both}
+use Rattle.theory.specs.declared.Item.the-variants.{Left, Right}
 use Rattle.theory.specs.declared.Emit.{Emit}
 use Rattle.theory.specs.declared.Emit.the-variants as emit
-use Rattle.theory.specs.declared.Level.{Level}
-use Rattle.theory.specs.declared.Step.{Step}
 use Rattle.theory.specs.declared.Step.the-variants as step
-use Rattle.theory.specs.Covering.{own, recordAt, covering}
-use Rattle.theory.specs.Picks.{picks, pick}
-use Rattle.theory.specs.Nodes.{aboveBits, abovePlace, placeRecords}
-use Rattle.theory.specs.Sides.{sideHeld, valueIn, childIn, entryAt, side-data}
-use Rattle.theory.specs.Contexts.{coverFor, entryFor, cover-entry, Shorter, not-own}
+use Rattle.theory.specs.Covering.{own, covering}
+use Rattle.theory.specs.Picks.{picks}
+use Rattle.theory.specs.Nodes.{aboveBits}
+use Rattle.theory.specs.Sides.{sideHeld, valueIn, entryAt, side-data}
+use Rattle.theory.specs.Contexts.{coverFor, entryFor, cover-entry, Shorter}
 use Rattle.theory.specs.Steps
 
 -- ---- covers: what code works out is what stands above

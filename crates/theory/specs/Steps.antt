@@ -11,7 +11,7 @@ use Rattle.defs.specs.declared.Operation.the-variants.{Union, Intersection, Dif
 use Rattle.defs.specs.Basics.{if_then_else_, each}
 use Rattle.defs.specs.Prefix.{deeper}
 use Rattle.defs.specs.Pool.{dataOf, childOf, bit, dataBit}
-use Rattle.defs.specs.Entries.{Entry, Place, dataPlace, childPlace, places}
+use Rattle.defs.specs.Entries.{Place, dataPlace, childPlace, places}
 use Rattle.defs.specs.Lists.{Record, missing, noCover}
 use Rattle.defs.specs.Tidy.{wordOf}
 use Rattle.defs.specs.Outcome.{Side}

@@ -1,12 +1,11 @@
 -- A map of one bit for each of a list, lowest bit first: what it picks, and what it picks first.
-use mathlib.Core.Path.{_≡_, refl, sym, _∙_, ap}
+use mathlib.Core.Path.{_≡_, refl, _∙_, ap}
 use mathlib.Core.Bool.{Bool, true, false}
 use mathlib.Core.List.{List, [], _∷_, _++_}
 use Prim.Native.Nat.{ℕ, zero, suc, _+_, _*_, _-_, _/_, _%_, _^_, _≤_, _<_}
 use native.Mathlib.Omega.{arith}
 use native.Mathlib.Nat.{mod-lt, div-add-mod', mul-add-mod-self-right, mul-add-div-right}
 use lib.Dec.{eqb}
-use lib.Pow.{pow-pos}
 use lib.ListN.{length, getD}
 use lib.Count.{trailingZeros}
 use borrow.Author.Tests.{eqb-true, eqb-false}

@@ -1,34 +1,30 @@
 -- Places that a list does not want give it nothing.
-use mathlib.Core.Path.{_≡_, refl, sym, _∙_, ap}
-use mathlib.Core.Bool.{Bool, true, false, not, _&&_, _||_}
-use mathlib.Core.List.{List, [], _∷_, _++_, map}
+use mathlib.Core.Path.{_≡_, refl, _∙_, ap}
+use mathlib.Core.Bool.{Bool, true, false, _||_}
+use mathlib.Core.List.{List, [], map}
 use mathlib.Core.Option.{Option, none, some}
-use Prim.Native.Nat.{ℕ, zero, suc, _+_, _*_, _/_, _^_, _≤_, _<_}
+use Prim.Native.Nat.{ℕ, zero, suc, _+_, _*_, _^_, _≤_, _<_}
 use native.Mathlib.Omega.{arith}
-use lib.Dec.{eqb, leb}
+use lib.Dec.{leb}
 use borrow.Author.Tests.{ne-eqb, leb-true, leb-false}
 use Rattle.defs.specs.declared.Prefix.{Prefix}
 use Rattle.defs.specs.declared.Operation.{Operation}
 use Rattle.defs.specs.declared.Operation.the-variants.{Union, Intersection, Difference, CoveringDifference, CoveringUnion}
-use Rattle.defs.specs.Basics.{if_then_else_, keep, each}
 use Rattle.defs.specs.Prefix.{deeper}
 use Rattle.defs.specs.Entries.{Entry, Place, dataPlace, childPlace, placesAt, places, prefixes}
-use Rattle.defs.specs.Lists.{Record, coverOf, noCover, allOf, isLed, longest}
+use Rattle.defs.specs.Lists.{Record, coverOf, noCover, longest}
 use Rattle.defs.specs.Lemmas.{All, nil, more, split, not-both, all-imp, all-append}
-use Rattle.defs.specs.Outcome.{Side}
 use Rattle.defs.specs.PrefixLaws.{Whole, leads-len}
 use Rattle.defs.specs.OrderLaws.{all-merge}
 use Rattle.defs.specs.NodeLaws.{Real, Fits}
+use Rattle.defs.specs.DeeperLaws.{whole-deeper}
 use Rattle.theory.specs.declared.Node.{Node}
 use Rattle.theory.specs.declared.Node.the-variants.{Absent, At}
-use Rattle.theory.specs.declared.Value.{Value}
-use Rattle.theory.specs.declared.Cover.{Cover}
 use Rattle.theory.specs.declared.Covers.{Covers}
 use Rattle.theory.specs.Covering.{own, recordAt, covering}
 use Rattle.theory.specs.Picks.{picks, pick, has, has-longest, longest-short}
-use Rattle.theory.specs.Nodes.{aboveBits, abovePlace, placeRecords}
-use Rattle.theory.specs.Sides.{sideHeld, valueIn, entryAt, side-data, side-fits}
-use Rattle.theory.specs.Down.{whole-deeper}
+use Rattle.theory.specs.Nodes.{abovePlace, placeRecords}
+use Rattle.theory.specs.Sides.{sideHeld, valueIn, side-data, side-fits}
 use Rattle.theory.specs.Contexts.{coverFor, entryFor, Shorter, not-own}
 use Rattle.theory.specs.Steps
 use Rattle.theory.specs.StepLaws.{ShortCover, longest-entry, cover-above, shorter-above}

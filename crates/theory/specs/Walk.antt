@@ -1,34 +1,34 @@
 -- The walk: each step keeps what is still to be given, a level entered gives what lies below its place, and the whole list is what is
 -- left at the start.
 use mathlib.Core.Path.{_≡_, refl, sym, _∙_, ap, subst}
-use mathlib.Core.Bool.{Bool, true, false, not, _&&_, _||_}
-use mathlib.Core.List.{List, [], _∷_, _++_, map, append-nil, append-assoc}
+use mathlib.Core.Bool.{Bool, true, false}
+use mathlib.Core.List.{List, [], _∷_, _++_}
 use mathlib.Core.Option.{Option, none, some}
 use Prim.Native.Nat.{ℕ, zero, suc, _+_, _*_, _-_, _/_, _%_, _^_, _≤_, _<_}
 use native.Mathlib.Omega.{arith}
 use native.Mathlib.Nat.{mul-div-right, mul-le-mul-right, suc-mul}
 use lib.Count.{trailingZeros}
 use lib.Dec.{eqb, leb}
-use lib.ListN.{length, getD}
+use lib.ListN.{length}
 use borrow.Author.Tests.{eqb-true, eqb-false, leb-true, leb-false}
 use Rattle.defs.specs.declared.Prefix.{Prefix}
 use Rattle.defs.specs.declared.Operation.{Operation}
 use Rattle.defs.specs.declared.Operation.the-variants.{Union, Intersection, Difference, CoveringDifference, CoveringUnion}
-use Rattle.defs.specs.Basics.{if_then_else_, keep, each}
+use Rattle.defs.specs.Basics.{if_then_else_, each}
 use Rattle.defs.specs.Prefix.{deeper}
-use Rattle.defs.specs.Entries.{Entry, Place, dataPlace, childPlace, places, prefixes, under, entriesAt}
-use Rattle.defs.specs.Lists.{Record, longest, recordsOf}
+use Rattle.defs.specs.Entries.{Entry, Place, dataPlace, childPlace, places, entriesAt}
+use Rattle.defs.specs.Lists.{Record}
 use Rattle.defs.specs.Tidy.{wordOf}
-use Rattle.defs.specs.Lemmas.{All, nil, more, split, not-both, all-imp, all-kept, each-append, each-on}
+use Rattle.defs.specs.Lemmas.{All, nil, more, split, not-both, all-imp, all-kept, each-append}
 use Rattle.defs.specs.Outcome.{Side}
 use Rattle.defs.specs.PrefixLaws.{Whole, leads-len}
 use Rattle.defs.specs.OrderLaws.{end}
 use Rattle.defs.specs.EntryLaws.{Sound, sound, sound-under}
+use Rattle.defs.specs.DeeperLaws.{whole-deeper}
 use Rattle.theory.specs.declared.Node.{Node}
 use Rattle.theory.specs.declared.Node.the-variants.{Absent, At}
-use Rattle.theory.specs.declared.Value.{Value}
 use Rattle.theory.specs.declared.Cover.{Cover}
-use Rattle.theory.specs.declared.Cover.the-variants.{Nothing, Of}
+use Rattle.theory.specs.declared.Cover.the-variants.{Nothing}
 use Rattle.theory.specs.declared.Covers.{Covers}
 use Rattle.theory.specs.declared.Emit.{Emit}
 use Rattle.theory.specs.declared.Emit.the-variants as emit
@@ -36,15 +36,14 @@ use Rattle.theory.specs.declared.Level.{Level}
 use Rattle.theory.specs.declared.Step.{Step}
 use Rattle.theory.specs.declared.Step.the-variants as step
 use Rattle.theory.specs.Covering.{covering}
-use Rattle.theory.specs.Picks.{Good, picks, pick, list-picks}
+use Rattle.theory.specs.Picks.{Good, picks, pick}
 use Rattle.theory.specs.Nodes.{aboveBits, placeRecords, node-places}
 use Rattle.theory.specs.Sides.{sideHeld, sideEntries, childIn, valueIn, side-places, side-fits, side-data, side-child}
-use Rattle.theory.specs.Down.{whole-deeper}
 use Rattle.theory.specs.Contexts.{coverFor, entryFor, cover-entry, Shorter, not-own, StandsLeft, StandsRight, context}
 use Rattle.theory.specs.Todo.{picked, picked-none, picked-word, word-lt, Lowest, lowest, each-keep}
 use Rattle.theory.specs.Steps
 use Rattle.theory.specs.StepLaws.{ShortCover, shorter-of, short-bits, cover-above, shorter-above, emitted, Free, free-of, emits}
-use Rattle.theory.specs.Unwanted.{InNode, places-in-node, unwanted}
+use Rattle.theory.specs.Unwanted.{places-in-node, unwanted}
 
 -- what holds of a level of a walk
 pub record LevelOk (j : Steps.Job) (f : Level) : Type 0 where

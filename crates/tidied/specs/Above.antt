@@ -15,9 +15,10 @@ use Rattle.defs.specs.Tidy.{dataPrefixes, childPrefixes, isUnder, entriesIn, ch
 use Rattle.defs.specs.Lemmas.{All, nil, more, split, is-false, all-imp, all-unmap, all-kept, keep-false, keep-map, all-map, all-true, any-false, map-ext, map-map}
 use Rattle.defs.specs.PrefixLaws.{Whole, leads-len, leads-self, leads-trans, same-says}
 use Rattle.defs.specs.EntryLaws.{view-led}
+use Rattle.defs.specs.DeeperLaws.{deeper-apart}
 use Rattle.tidied.specs.ListFacts.{full, keep-ext, any-full, all-upTo, all-each, each-none}
 use Rattle.tidied.specs.Words.{word-ext, word-map, word-zero}
-use Rattle.tidied.specs.Halving.{onto, deeper-apart}
+use Rattle.tidied.specs.Halving.{onto}
 use Rattle.tidied.specs.Layout.{isHere}
 use Rattle.tidied.specs.Find.{every-upTo}
 use Rattle.tidied.specs.Copying.{dataWord, childWord, under-path, under-outside}

@@ -17,9 +17,10 @@ use Rattle.defs.specs.Tidy.{dataPrefixes, childPrefixes, isUnder, entriesIn, ch
 use Rattle.defs.specs.Lemmas.{split, not-both, is-false, all-imp, all-unmap, keep-true, keep-false, map-on, map-map}
 use Rattle.defs.specs.PrefixLaws.{comparable, leads-trans, same-says}
 use Rattle.defs.specs.EntryLaws.{Sound, view-led}
+use Rattle.defs.specs.DeeperLaws.{leads-deeper}
 use Rattle.tidied.specs.ListFacts.{full, any-full, keep-swap, keep-within, run, each-join, map-each, map-rows, all-upTo}
 use Rattle.tidied.specs.Words.{word-map, ones-word}
-use Rattle.tidied.specs.Halving.{onto, leads-deeper}
+use Rattle.tidied.specs.Halving.{onto}
 use Rattle.tidied.specs.Layout.{isHere, data-bit, data-count, child-count}
 use Rattle.tidied.specs.Holds.{count-onto}
 use Rattle.tidied.specs.Count.{Deep, under-count}

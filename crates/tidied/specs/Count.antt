@@ -16,8 +16,9 @@ use Rattle.defs.specs.Lemmas.{All, nil, more, split, all-map, all-true, all-kee
 use Rattle.defs.specs.PrefixLaws.{Whole, whole-top, whole-long}
 use Rattle.defs.specs.NodeLaws.{by-levels, deeper-low, deeper-high, deeper-none}
 use Rattle.defs.specs.EntryLaws.{Sound}
+use Rattle.defs.specs.DeeperLaws.{whole-deeper}
 use Rattle.tidied.specs.ListFacts.{full, any-full, each-none, all-each}
-use Rattle.tidied.specs.Halving.{onto, whole-deeper, under-top, under-halves, under-last, under-none}
+use Rattle.tidied.specs.Halving.{onto, under-top, under-halves, under-last, under-none}
 
 module _ {A : Type 0} where
   -- the sum of a number for each of a list

@@ -19,8 +19,9 @@ use Rattle.defs.specs.Lemmas.{All, nil, more, split, not-both, is-false, and-le
 use Rattle.defs.specs.PrefixLaws.{Whole, leads-len, leads-self, leads-trans, same-self, same-says}
 use Rattle.defs.specs.NodeLaws.{Fits}
 use Rattle.defs.specs.EntryLaws.{sound, sound-all, held-fits}
+use Rattle.defs.specs.DeeperLaws.{deeper-apart, leads-deeper}
 use Rattle.tidied.specs.ListFacts.{keep-within}
-use Rattle.tidied.specs.Halving.{onto, leads-deeper, deeper-apart, under-none}
+use Rattle.tidied.specs.Halving.{onto, under-none}
 use Rattle.tidied.specs.Count.{Deep, deep-child}
 
 -- ---- places

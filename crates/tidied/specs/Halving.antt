@@ -5,57 +5,24 @@ use mathlib.Core.Logic.{_⊎_, ⊎-elim}
 use mathlib.Core.List.{List, [], _∷_, _++_}
 use Prim.Native.Nat.{ℕ, suc, _+_, _-_, _*_, _/_, _%_, _^_, _≤_, _<_}
 use native.Mathlib.Omega.{arith}
-use native.Mathlib.Nat.{mul-assoc, add-mul, eq-or-lt-of-le, eq-zero-or-pos}
-use lib.Pow.{pow-pos, pow-add, shr-shr, high as pow-high}
+use native.Mathlib.Nat.{eq-or-lt-of-le, eq-zero-or-pos}
+use lib.Pow.{shr-shr}
 use Rattle.defs.specs.declared.Prefix.{Prefix}
 use Rattle.defs.specs.Basics.{keep}
 use Rattle.defs.specs.Prefix.{first, leads, before, same, deeper, top}
 use Rattle.defs.specs.Entries.{Entry, under, prefixes}
 use Rattle.defs.specs.Lemmas.{All, split, not-both, is-false, all-imp, all-unmap, keep-on, keep-true, keep-false}
-use Rattle.defs.specs.PrefixLaws.{Whole, cut, cut-at, low, high, leads-of, leads-len, leads-first, leads-self, leads-trans, leads-same, leads-low, leads-high, low-high, before-below, before-irrefl, before-asym, same-self, same-says}
+use Rattle.defs.specs.PrefixLaws.{Whole, low, high, leads-of, leads-len, leads-first, leads-self, leads-trans, leads-same, leads-low, leads-high, low-high, before-below, before-irrefl, before-asym, same-self, same-says}
 use Rattle.defs.specs.OrderLaws.{Ascends, then-after}
 use Rattle.defs.specs.NodeLaws.{Real}
 use Rattle.defs.specs.EntryLaws.{Sound}
+use Rattle.defs.specs.DeeperLaws.{deeper-first}
 
 -- two tests that pass together are equal
 pub both-ways : (a b : Bool) → (a ≡ true → b ≡ true) → (b ≡ true → a ≡ true) → a ≡ b
 both-ways true b f g = sym (f refl)
 both-ways false true f g = g refl
 both-ways false false f g = refl
-
--- ---- n more bits of value v
-module _ (p : Prefix) (w : Whole p) (n : ℕ) (short : p .len + n ≤ 64) where
-  -- the key by its first bits
-  shape : p .key ≡ first (p .len) (p .key) * 2 ^ n * 2 ^ (64 - (p .len + n))
-  unfolding cut
-  shape =
-      let e : 64 - p .len ≡ n + (64 - (p .len + n)) = omega arith in
-      sym w ∙ ap (λ (k : ℕ). first (p .len) (p .key) * 2 ^ k) e ∙ ap (first (p .len) (p .key) *_) (pow-add 2 n _) ∙ sym (mul-assoc (first (p .len) (p .key)) (2 ^ n) _)
-
-  shape-deeper : (v : ℕ) → deeper p n v .key ≡ (first (p .len) (p .key) * 2 ^ n + v) * 2 ^ (64 - (p .len + n)) + 0
-  shape-deeper v = omega (arith, shape, add-mul (first (p .len) (p .key) * 2 ^ n) v (2 ^ (64 - (p .len + n))))
-
-  pub whole-deeper : (v : ℕ) → Whole (deeper p n v)
-  whole-deeper v =
-      ap (cut (p .len + n)) (shape-deeper v) ∙ cut-at (p .len + n) _ 0 (pow-pos (64 - (p .len + n))) ∙ omega (arith, shape-deeper v)
-
-  pub deeper-first : (v : ℕ) → first (p .len + n) (deeper p n v .key) ≡ first (p .len) (p .key) * 2 ^ n + v
-  deeper-first v = ap (_/ 2 ^ (64 - (p .len + n))) (shape-deeper v) ∙ pow-high _ (64 - (p .len + n)) (pow-pos (64 - (p .len + n)))
-
-  first-less : (k : ℕ) → first (p .len + n) k / 2 ^ n ≡ first (p .len) k
-  first-less k =
-      let e : (64 - (p .len + n)) + n ≡ 64 - p .len = omega arith in
-      shr-shr k (64 - (p .len + n)) n ∙ ap (λ (m : ℕ). k / 2 ^ m) e
-
-  -- p leads it
-  pub leads-deeper : (v : ℕ) → v < 2 ^ n → leads p (deeper p n v) ≡ true
-  leads-deeper v l =
-      leads-of p (deeper p n v) (omega arith)
-      (sym (first-less (deeper p n v .key)) ∙ ap (_/ 2 ^ n) (deeper-first v) ∙ pow-high (first (p .len) (p .key)) n l)
-
-  -- two that lead a third are one
-  pub deeper-apart : (u v : ℕ) (x : Prefix) → leads (deeper p n u) x ≡ true → leads (deeper p n v) x ≡ true → u ≡ v
-  deeper-apart u v x h k = omega (arith, leads-first (deeper p n u) x h, leads-first (deeper p n v) x k, deeper-first u, deeper-first v)
 
 -- ---- the halves of a prefix
 module _ (q : Prefix) (w : Whole q) (room : q .len < 64) where

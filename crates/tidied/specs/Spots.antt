@@ -19,10 +19,11 @@ use Rattle.defs.specs.Tidy.{childPrefixes, isUnder, childrenOf, nodesFrom, node
 use Rattle.defs.specs.Lemmas.{All, nil, more, split, not-both, is-false, all-append, all-imp, keep-append, keep-false, map-append, each-append}
 use Rattle.defs.specs.PrefixLaws.{whole-top, leads-trans}
 use Rattle.defs.specs.EntryLaws.{sound-all}
+use Rattle.defs.specs.DeeperLaws.{leads-deeper}
 use Rattle.bits.specs.WordLaws.{rank-suc}
 use Rattle.pool.specs.Sound.{Formed, childrenBefore, valuesBefore, depth, depth-60, data-small, children-all, child-node}
 use Rattle.tidied.specs.ListFacts.{run, length-run, run-append, upTo-run, length-keep, any-imp, any-full, full, keep-swap, each-ext, all-each, all-upTo, map-each}
-use Rattle.tidied.specs.Halving.{leads-deeper, under-top, under-none}
+use Rattle.tidied.specs.Halving.{under-top, under-none}
 use Rattle.tidied.specs.Holds.{view-sound}
 use Rattle.tidied.specs.Count.{Deep}
 use Rattle.tidied.specs.Find.{Seen, seen-child, seen-kid}

@@ -1,7 +1,7 @@
 -- A call from its tests to its buffers: the refusal table, and what the loops over the nodes come to.
 use mathlib.Core.Path.{_≡_, refl, sym, ap, ap₂, _∙_, subst}
 use mathlib.Core.Bool.{Bool, true, false, _||_}
-use mathlib.Core.List.{List, [], _∷_, _++_, map}
+use mathlib.Core.List.{List, [], _∷_, map}
 use Prim.Native.Nat.{ℕ, zero, suc, _+_, _-_, _*_, _/_, _^_, _≤_, _<_}
 use native.Mathlib.Omega.{arith}
 use lib.Dec.{eqb, ltb}
@@ -16,7 +16,7 @@ use Rattle.defs.specs.Check.{faultOf}
 use Rattle.defs.specs.Tidy.{dataPrefixes, entriesIn, nodesOf, tidyPool, tidyValues}
 use Rattle.defs.specs.Lemmas.{All, nil, more, split, all-both, all-keep, keep-on, each-on}
 use Rattle.defs.specs.Outcome.{Row, answer, firstOf, Side, entriesOf, widthRow, faultRow, rootRow, roomRow, tidyRows, Tidied, tidyOutcome, checkOutcome}
-use Rattle.defs.specs.OutcomeLaws.{refused-keeps}
+use Rattle.defs.specs.OutcomeLaws.{first-stays, first-passes, refused-keeps}
 use Rattle.bits.specs.WordLaws.{rank-all}
 use Rattle.pool.specs.Sound.{formed, data-small, values-small}
 use Rattle.pool.specs.Answers.{zero-says, one-says, one-of, two-says, two-else}
@@ -180,16 +180,6 @@ poolRows width s = widthRow width ∷ faultRow 2 width s ∷ rootRow 4 width s �
 -- the rows of the two buffers
 abbrev roomRows : ℕ → ℕ → List ℕ → List ℕ → List Row
 roomRows nodes entries out values = roomRow 6 nodes (length out / 4) ∷ roomRow 7 entries (length values) ∷ []
-
--- where a row holds, more rows behind change nothing
-first-stays : (rs ts : List Row) (done : ℕ) → (firstOf rs 0 .number ≡ 0 → ⊥) → firstOf (rs ++ ts) done ≡ firstOf rs 0
-first-stays [] ts done h = absurd (h refl)
-first-stays (r ∷ rs) ts done h = split (r .holds) (λ e. rw e) (λ e. rw e (first-stays rs ts done (rw e at h)))
-
--- where none holds, the rows behind decide
-first-passes : (rs ts : List Row) (done : ℕ) → All (λ r. r .holds ≡ false) rs → firstOf (rs ++ ts) done ≡ firstOf ts done
-first-passes [] ts done nil = refl
-first-passes (r ∷ rs) ts done (more h hs) = rw h (first-passes rs ts done hs)
 
 module _ (width : ℕ) (s : Side) where
   -- what the tests of pool and root come to

@@ -16,13 +16,13 @@ use Rattle.defs.specs.Entries.{entriesAt, allEntries, under, view}
 use Rattle.defs.specs.Tidy.{dataPrefixes, childPrefixes, isUnder, wordOf}
 use Rattle.defs.specs.Lemmas.{split, not-both}
 use Rattle.defs.specs.PrefixLaws.{Whole, leads-trans}
+use Rattle.defs.specs.DeeperLaws.{leads-deeper}
 use Rattle.bits.specs.Places.{placeLen, placeValue, placePrefix}
 use Rattle.bits.specs.PlaceLaws.{made, data-place, child-place, place-len-below, place-prefix}
 use Rattle.pool.specs.Sound.{depth-60, child-node}
 use Rattle.tidied.specs.ListFacts.{full, any-full}
 use Rattle.tidied.specs.Layout.{data-bit}
 use Rattle.tidied.specs.Find.{Seen, seen-child}
-use Rattle.tidied.specs.Halving.{leads-deeper}
 use Rattle.tidied.specs.Holds.{view-sound}
 use Rattle.tidied.specs.Spots.{under-view}
 use Rattle.tidied.specs.Source.{prefixAt, prefix-seen, prefix-depth}

@@ -15,11 +15,11 @@ use Rattle.defs.specs.Prefix.{first, leads, deeper, top}
 use Rattle.defs.specs.Pool.{nodeCount, dataOf, childOf, firstChild, bit, rank, ones}
 use Rattle.defs.specs.Lemmas.{split, is-false}
 use Rattle.defs.specs.PrefixLaws.{Whole, cut, prefix-eq, leads-of, leads-len, leads-first, leads-trans, leads-top, leads-cut, comparable}
+use Rattle.defs.specs.DeeperLaws.{deeper-first, leads-deeper}
 use Rattle.bits.specs.WordLaws.{rank-mono, rank-less, rank-suc, rank-le, select}
 use Rattle.pool.specs.Sound.{depth, depth-60, children-mono, children-apart, child-node, parent}
 use Rattle.theory.specs.Sides.{onPath}
 use Rattle.theory.specs.Down.{nextBits}
-use Rattle.tidied.specs.Halving.{deeper-first, leads-deeper}
 use Rattle.tidied.specs.Source.{prefixAt, prefix-root, prefix-seen, prefix-depth, prefix-child}
 use Rattle.view.specs.Standing.{Sane, nodes-few}
 use Rattle.view.specs.Descent.{cutTo, next-bits}

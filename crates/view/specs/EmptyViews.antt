@@ -15,6 +15,7 @@ use Rattle.defs.specs.PrefixLaws.{Whole, leads-len, whole-long, cut-le}
 use Rattle.defs.specs.Entries.{Entry, Place, dataPlace, childPlace, places, entriesAt, under, view}
 use Rattle.defs.specs.EntryLaws.{sound}
 use Rattle.defs.specs.Lemmas.{All, all-imp, split, and-left, and-right}
+use Rattle.defs.specs.DeeperLaws.{whole-deeper}
 use Rattle.bits.specs.Places.{placePrefix}
 use Rattle.bits.specs.PlaceLaws.{child-place, place-prefix}
 use Rattle.bits.specs.WordLaws.{bit-none}
@@ -23,7 +24,6 @@ use Rattle.theory.specs.declared.Node.the-variants as node
 use Rattle.theory.specs.declared.Value.{Value}
 use Rattle.theory.specs.declared.Value.the-variants.{Missing, Is}
 use Rattle.theory.specs.Sides.{sideHeld, sideEntries, onPath, childIn, valueIn, entryAt, under-inside, side-places, side-data, side-child}
-use Rattle.theory.specs.Down.{whole-deeper}
 use Rattle.theory.specs.Unwanted.{InNode, places-in-node}
 use Rattle.view.specs.declared.Found.{Found}
 use Rattle.view.specs.declared.Found.the-variants as found

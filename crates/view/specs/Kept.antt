@@ -17,6 +17,7 @@ use Rattle.defs.specs.PrefixLaws.{Whole, leads-of, leads-trans}
 use Rattle.defs.specs.Entries.{Place, dataPlace, childPlace}
 use Rattle.defs.specs.Tidy.{wordOf}
 use Rattle.defs.specs.Outcome.{Side}
+use Rattle.defs.specs.DeeperLaws.{deeper-first}
 use Rattle.bits.specs.Places.{placeLen, placeValue, placePrefix}
 use Rattle.bits.specs.PlaceLaws.{made, data-place, place-len-below, place-prefix}
 use Rattle.bits.specs.Worked.{one-shl}
@@ -28,7 +29,6 @@ use Rattle.theory.specs.declared.Value.the-variants.{Missing, Is}
 use Rattle.theory.specs.declared.Cover.{Cover}
 use Rattle.theory.specs.declared.Cover.the-variants.{Nothing}
 use Rattle.theory.specs.Sides.{valueIn}
-use Rattle.theory.specs.Down.{deeper-first}
 use Rattle.theory.specs.Steps.{placeBit, nearer, coverBits, coverOn, isCover}
 use Rattle.theory.specs.Todo.{word-lt}
 use Rattle.theory.specs.Unwanted.{InNode}

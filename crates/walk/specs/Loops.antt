@@ -1,8 +1,8 @@
 -- The loops that count and write: their invariants, and what a turn does to them.
-use mathlib.Core.Path.{_≡_, refl, sym, _∙_, ap, ap₂, subst}
+use mathlib.Core.Path.{_≡_, refl, sym, _∙_, ap, subst}
 use mathlib.Core.Bool.{Bool, true, false}
 use mathlib.Core.List.{List, [], _∷_, _++_, append-nil}
-use Prim.Native.Nat.{ℕ, zero, suc, _+_, _*_, _-_, _/_, _%_, _^_, _≤_, _<_}
+use Prim.Native.Nat.{ℕ, zero, suc, _+_, _*_, _-_, _^_, _≤_, _<_}
 use native.Mathlib.Omega.{arith}
 use lib.Count.{trailingZeros}
 use lib.Dec.{eqb, leb}
@@ -12,9 +12,9 @@ use borrow.Rule.Slice.PartMut.{putMid, midOf, put-same}
 use Rattle.defs.specs.declared.Prefix.{Prefix}
 use Rattle.defs.specs.Prefix.{deeper}
 use Rattle.defs.specs.Entries.{Place, dataPlace, childPlace, places}
-use Rattle.defs.specs.Lists.{Record, recordWords, wordsOf}
-use Rattle.defs.specs.Basics.{if_then_else_}
+use Rattle.defs.specs.Lists.{Record, recordWords}
 use Rattle.defs.specs.Lemmas.{split}
+use Rattle.defs.specs.DeeperLaws.{whole-deeper}
 use Rattle.theory.specs.declared.Node.{Node}
 use Rattle.theory.specs.declared.Node.the-variants as node
 use Rattle.theory.specs.declared.Cover.the-variants as cover
@@ -26,13 +26,12 @@ use Rattle.theory.specs.declared.Level.{Level}
 use Rattle.theory.specs.declared.Step.{Step}
 use Rattle.theory.specs.declared.Step.the-variants as step
 use Rattle.theory.specs.Sides.{childIn}
-use Rattle.theory.specs.Down.{whole-deeper}
-use Rattle.theory.specs.Steps.{Job, itemRecord, carried, coversAt, emitAt, given, downTo, enter, stepAt, stepOf, placeOf, without, levelRest}
-use Rattle.theory.specs.Todo.{Lowest, lowest}
+use Rattle.theory.specs.Steps.{Job, itemRecord, carried, coversAt, emitAt, given, downTo, stepAt, stepOf, placeOf, without, levelRest}
+use Rattle.theory.specs.Todo.{lowest}
 use Rattle.theory.specs.Unwanted.{InNode}
 use Rattle.theory.specs.Walk.{LevelOk, places-length}
 use Rattle.theory.specs.Stack as stack
-use Rattle.theory.specs.Loop.{recordsWords, Walking, Standing, begin, turn, fewer, has-room, within, finished, Written, nothing-written, written-more}
+use Rattle.theory.specs.Loop.{recordsWords, Walking, begin, turn, fewer, has-room, within, finished, Written, nothing-written, written-more}
 use Rattle.rules.specs.Records.{moved, frontOf}
 use Rattle.view.specs.Standing.{child-in}
 use Rattle.view.specs.Numbers.{place-inside}

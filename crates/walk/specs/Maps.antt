@@ -1,17 +1,16 @@
 -- The places that a list visits in two nodes, as bitmaps: they are what the walk's definition wants.
-use mathlib.Core.Path.{_≡_, refl, sym, _∙_, ap, ap₂, subst}
-use mathlib.Core.Bool.{Bool, true, false, not, _&&_, _||_}
-use mathlib.Core.List.{List, []}
+use mathlib.Core.Path.{_≡_, _∙_, ap}
+use mathlib.Core.Bool.{not, _&&_}
 use Prim.Native.Nat.{ℕ}
 use Rattle.defs.specs.declared.Prefix.{Prefix}
 use Rattle.defs.specs.declared.Operation.{Operation}
 use Rattle.defs.specs.declared.Operation.the-variants.{Union, Intersection, Difference, CoveringDifference, CoveringUnion}
-use Rattle.defs.specs.Entries.{Place, dataPlace, childPlace, places}
+use Rattle.defs.specs.Entries.{Place, places}
 use Rattle.defs.specs.Tidy.{wordOf}
 use Rattle.theory.specs.declared.Node.{Node}
 use Rattle.theory.specs.declared.Covers.{Covers}
 use Rattle.theory.specs.declared.Level.{Level}
-use Rattle.theory.specs.Steps.{Job, enter, marked, wants, wanted, isCover, coverOn, carried, noCovers}
+use Rattle.theory.specs.Steps.{Job, enter, marked, wants, wanted, isCover, coverOn, carried}
 use Rattle.theory.specs.Unwanted.{InNode, places-in-node}
 use Rattle.view.specs.declared.Bitmaps.{Bitmaps}
 use Rattle.view.specs.Standing.{bitmapsOf, bitmaps-marked}

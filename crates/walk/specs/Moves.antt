@@ -1,18 +1,16 @@
 -- What the walk's functions work out is what the walk's definition says, one function after the other.
 use mathlib.Core.Path.{_≡_, refl, sym, _∙_, ap, ap₂, subst}
-use mathlib.Core.Bool.{Bool, true, false}
-use mathlib.Core.List.{List, []}
-use Prim.Native.Nat.{ℕ, zero, suc, _+_, _*_, _-_, _/_, _%_, _^_, _≤_, _<_}
+use Prim.Native.Nat.{ℕ, _*_, _-_, _%_, _^_, _≤_, _<_}
 use native.Mathlib.Omega.{arith}
 use lib.Count.{trailingZeros}
-use lib.ListN.{getD}
 use borrow.Author.Tests.{eq-eqb, ne-eqb, le-leb, lt-leb}
 use Rattle.defs.specs.declared.Prefix.{Prefix}
 use Rattle.defs.specs.declared.Operation.{Operation}
 use Rattle.defs.specs.declared.Operation.the-variants.{Union, Intersection, Difference, CoveringDifference, CoveringUnion}
 use Rattle.defs.specs.Prefix.{deeper}
-use Rattle.defs.specs.Entries.{Place, dataPlace, childPlace, places}
+use Rattle.defs.specs.Entries.{dataPlace, childPlace, places}
 use Rattle.defs.specs.PrefixLaws.{Whole}
+use Rattle.defs.specs.DeeperLaws.{whole-deeper}
 use Rattle.bits.specs.Places.{placeLen, placeValue, placePrefix}
 use Rattle.bits.specs.Worked.{one-shl}
 use Rattle.bits.specs.PlaceLaws.{place-prefix, place-len-below, child-place}
@@ -29,11 +27,10 @@ use Rattle.theory.specs.declared.Level.{Level}
 use Rattle.theory.specs.declared.Step.{Step}
 use Rattle.theory.specs.declared.Step.the-variants as step
 use Rattle.theory.specs.Sides.{valueIn, childIn}
-use Rattle.theory.specs.Down.{whole-deeper}
 use Rattle.theory.specs.Steps
 use Rattle.theory.specs.Steps.{Job, carried, noCovers, coversAt, emitOf, given, downTo, stepAt, stepOf, without, enter}
 use Rattle.theory.specs.Todo.{Lowest, lowest}
-use Rattle.theory.specs.Walk.{LevelOk, places-length}
+use Rattle.theory.specs.Walk.{places-length}
 use Rattle.view.specs.Standing.{child-in}
 use Rattle.view.specs.Numbers.{numberOf, placeAt, Numbered, place-numbered}
 use Rattle.walk.specs.Ready.{Entering, Passing, Ready}
