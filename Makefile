@@ -1,5 +1,5 @@
 # What one does with this repository. 'make help' lists it.
-.PHONY: help run test prove lib bench vectors clean
+.PHONY: help run test prove lib bench compare published vectors clean
 
 help: ## this list
 	@grep -hE '^[a-z]+:.*## ' $(MAKEFILE_LIST) | sed -E 's/:.*## /	/' | expand -t 12
@@ -26,6 +26,16 @@ lib: ## prove and build the static library for C and Rust, target/staticlib/libl
 
 bench: lib ## time the library against ordinary fast Rust; the table goes to docs/BENCHMARKS.md by hand, the plot to docs/benchmarks.svg
 	@cargo run --offline --release --quiet --manifest-path rust/Cargo.toml -p bench -- docs/benchmarks.svg
+
+COUNT ?= 1000000
+SEED ?= 1
+compare: lib ## compare the library, and the program as built, with the reference on COUNT random cases of SEED
+	@cargo build --offline --release --quiet --manifest-path rust/Cargo.toml -p compare
+	@rust/target/release/compare $(COUNT) $(SEED)
+
+published: lib ## compare the published set views, if they are beside the project, with the library; COUNT cases of SEED at each width
+	@cargo build --offline --release --quiet --manifest-path rust/Cargo.toml -p published
+	@rust/target/release/published $(COUNT) $(SEED)
 
 vectors: ## make the stored vectors anew from the Rust reference
 	@tests/tools

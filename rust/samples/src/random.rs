@@ -10,6 +10,12 @@ impl Random {
         Random(seed)
     }
 
+    /// A generator for one of many numbered cases; two numbers of a seed have nothing in common.
+    pub fn of_case(seed: u64, number: u64) -> Random {
+        let seed = Random(seed).word();
+        Random(Random(seed ^ number).word())
+    }
+
     /// The next word.
     pub fn word(&mut self) -> u64 {
         self.0 = self.0.wrapping_add(0x9e37_79b9_7f4a_7c15);

@@ -4,7 +4,7 @@ use crate::random::Random;
 use pools::{parent, Table};
 
 /// The last depth that has nodes.
-fn last_depth(width: u32) -> u32 {
+pub(crate) fn last_depth(width: u32) -> u32 {
     width / 5 * 5
 }
 
@@ -15,7 +15,7 @@ pub fn usable(width: u32, depth: u32) -> u32 {
 }
 
 /// A data bitmap: none, one bit, some bits, or seldom all.
-fn some_data(random: &mut Random, width: u32, depth: u32) -> u32 {
+pub(crate) fn some_data(random: &mut Random, width: u32, depth: u32) -> u32 {
     let word = random.word() as u32;
     let wanted = match random.below(20) {
         0..=3 => 0,
