@@ -376,7 +376,7 @@ pub fn kept_data(words: &[u32], root: Prefix, node: Node, p: Prefix) -> u32
 }
 
 // Nothing lies in a node or below it, so many levels deep: it has no value, and each of its children is asked the same with one level less.
-pub fn is_empty(words: &[u32], node: u32, levels: u32) -> bool
+fn is_empty(words: &[u32], node: u32, levels: u32) -> bool
     requires { ⌜ Sane (now words) × (node < nodeCount (now words)) ⌝ }
     ensures { λ r. ⌜ r ≡ emptyAt (now (words .entry)) levels node ⌝ }
 {
