@@ -132,45 +132,64 @@ static uint32_t root_len(uint32_t width) { return below(12) == 0 ? (uint32_t)nex
 static room left_room, right_room, out_room, values_room;
 static uint64_t before[1 << 17];
 
-/* Every call on one pair of pools. */
-static uint64_t round_of_calls(int from) {
-    static uint32_t scratch[4 * 600];
-    const uint32_t width = below(8) == 0 ? below(70) : (below(2) ? 32 : 64);
-    const uint32_t good = width == 32 || width == 64 ? width : 32;
-    size_t nl = fill(scratch, 1 + below(300), good);
-    uint32_t *left = part(left_room, 4 * nl, from);
-    memcpy(left, scratch, 4 * nl);
-    size_t nr = fill(scratch, 1 + below(300), good);
-    uint32_t *right = part(right_room, 4 * nr, from);
-    memcpy(right, scratch, 4 * nr);
-    const uint64_t lk = next_word() & next_word(), rk = below(2) ? lk : next_word();
-    const uint32_t ll = below(2) ? 0 : root_len(good), rl = below(2) ? 0 : root_len(good);
+/* A pool and a root, as lent. */
+typedef struct side {
+    uint32_t *words;
+    size_t count;
+    uint64_t key;
+    uint32_t len;
+} side;
 
-    lhamtrovi_check(width, left, nl);
-    lhamtrovi_equal_keys(width, left, nl, lk, ll, right, nr, rk, rl);
-    for (size_t i = 0; i < sizeof lists / sizeof *lists; i++) {
-        lhamtrovi_answer needed = lists[i](width, left, nl, lk, ll, right, nr, rk, rl, NULL, 0);
-        size_t exact = needed.number == LHAMTROVI_NO_ROOM ? needed.beside * 6 : 0;
-        size_t words = below(3) == 0 && exact > 0 ? exact - 1 - below(6) : exact + (below(2) ? below(100) : 0);
-        uint64_t *out = part(out_room, 8 * words, from);
-        for (size_t k = 0; k < words; k++)
-            out[k] = before[k] = next_word();
-        lhamtrovi_answer a = lists[i](width, left, nl, lk, ll, right, nr, rk, rl, out, words);
-        kept(out, before, a.number == 0 ? 48 * a.beside : 0, 8 * words, "a list wrote where it may not");
-    }
-    lhamtrovi_answer needed = lhamtrovi_tidy(width, left, nl, lk, ll, NULL, 0, NULL, 0);
+/* A pool of some kind in a room, with a root. */
+static side lend_side(room r, uint32_t width, uint64_t key, int from) {
+    static uint32_t scratch[4 * 300];
+    side s = {NULL, fill(scratch, 1 + below(300), width), key, below(2) ? 0 : root_len(width)};
+    s.words = part(r, 4 * s.count, from);
+    memcpy(s.words, scratch, 4 * s.count);
+    return s;
+}
+
+/* One list, first without an output, then with one that is too small, exact or larger. */
+static void call_list(list_call *list, uint32_t width, side l, side r, int from) {
+    lhamtrovi_answer needed = list(width, l.words, l.count, l.key, l.len, r.words, r.count, r.key, r.len, NULL, 0);
+    size_t exact = needed.number == LHAMTROVI_NO_ROOM ? needed.beside * 6 : 0;
+    size_t words = below(3) == 0 && exact > 0 ? exact - 1 - below(6) : exact + (below(2) ? below(100) : 0);
+    uint64_t *out = part(out_room, 8 * words, from);
+    for (size_t k = 0; k < words; k++)
+        out[k] = before[k] = next_word();
+    lhamtrovi_answer a = list(width, l.words, l.count, l.key, l.len, r.words, r.count, r.key, r.len, out, words);
+    kept(out, before, a.number == 0 ? 48 * a.beside : 0, 8 * words, "a list wrote where it may not");
+}
+
+/* Tidying, first without outputs, then with some of all sizes. */
+static void call_tidy(uint32_t width, side s, int from) {
+    lhamtrovi_answer needed = lhamtrovi_tidy(width, s.words, s.count, s.key, s.len, NULL, 0, NULL, 0);
     size_t nodes = needed.number == LHAMTROVI_NO_ROOM ? 4 * needed.beside : 0;
     size_t words = below(3) == 0 && nodes > 0 ? nodes - 1 : nodes + below(9);
-    size_t count = below(3) == 0 ? below(100) : nl / 4 * 31;
+    size_t count = below(3) == 0 ? below(100) : s.count / 4 * 31;
     uint32_t *out = part(out_room, 4 * words, from), *values = part(values_room, 4 * count, from);
     memset(out, 0x5a, 4 * words);
     memset(values, 0x5a, 4 * count);
     memset(before, 0x5a, sizeof before);
-    lhamtrovi_answer a = lhamtrovi_tidy(width, left, nl, lk, ll, out, words, values, count);
+    lhamtrovi_answer a = lhamtrovi_tidy(width, s.words, s.count, s.key, s.len, out, words, values, count);
     kept(out, before, a.number == 0 ? 16 * a.beside : 0, 4 * words, "tidying wrote where it may not");
     if (a.number != 0)
         kept(values, before, 0, 4 * count, "a refused tidying wrote values");
-    return 4 + 2 * (sizeof lists / sizeof *lists);
+}
+
+/* Every call on one pair of pools; answers how many. */
+static uint64_t round_of_calls(int from) {
+    const uint32_t width = below(8) == 0 ? below(70) : (below(2) ? 32 : 64);
+    const uint32_t good = width == 32 || width == 64 ? width : 32;
+    const uint64_t key = next_word() & next_word();
+    const size_t count = sizeof lists / sizeof *lists;
+    side l = lend_side(left_room, good, key, from), r = lend_side(right_room, good, below(2) ? key : next_word(), from);
+    lhamtrovi_check(width, l.words, l.count);
+    lhamtrovi_equal_keys(width, l.words, l.count, l.key, l.len, r.words, r.count, r.key, r.len);
+    for (size_t i = 0; i < count; i++)
+        call_list(lists[i], width, l, r, from);
+    call_tidy(width, l, from);
+    return 4 + 2 * count;
 }
 
 int main(int argc, char **argv) {

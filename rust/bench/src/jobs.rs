@@ -13,18 +13,21 @@ pub enum Job {
     Difference,
     CoveringDifference,
     CoveringUnion,
+    /// The same with an output of just the size, so that our call counts first.
+    CoveringUnionExact,
     EqualKeys,
     Tidy,
 }
 
 /// All of them; the check comes first, since the others' tables take it off.
-pub const ALL: [Job; 8] = [
+pub const ALL: [Job; 9] = [
     Job::Check,
     Job::Union,
     Job::Intersection,
     Job::Difference,
     Job::CoveringDifference,
     Job::CoveringUnion,
+    Job::CoveringUnionExact,
     Job::EqualKeys,
     Job::Tidy,
 ];
@@ -39,6 +42,7 @@ impl Job {
             Job::Difference => "difference",
             Job::CoveringDifference => "covering difference",
             Job::CoveringUnion => "covering union",
+            Job::CoveringUnionExact => "covering union, no spare room",
             Job::EqualKeys => "equality",
             Job::Tidy => "tidy",
         }
@@ -60,6 +64,8 @@ pub struct Pools {
     left: Vec<u32>,
     right: Vec<u32>,
     out: Vec<u64>,
+    /// The words of the covering union.
+    exact: usize,
     tidy: Vec<u32>,
     values: Vec<u32>,
 }
@@ -79,14 +85,17 @@ impl Pools {
                     .sum::<usize>()
             })
             .sum();
-        Pools {
+        let mut pools = Pools {
             width,
             tidy: vec![0; left.len()],
             left,
             right,
             out: vec![0; 6 * entries],
+            exact: 0,
             values: vec![0; entries],
-        }
+        };
+        pools.exact = 6 * pools.count(Job::CoveringUnion);
+        pools
     }
 
     /// The job by the proved library: its answer.
@@ -102,6 +111,9 @@ impl Pools {
             Job::Difference => plain::difference(width, left, right, out),
             Job::CoveringDifference => plain::covering_difference(width, left, right, out),
             Job::CoveringUnion => plain::covering_union(width, left, right, out),
+            Job::CoveringUnionExact => {
+                plain::covering_union(width, left, right, &mut out[..self.exact])
+            }
             Job::EqualKeys => plain::equal_keys(width, left, left),
             Job::Tidy => plain::tidy(width, left, &mut self.tidy, &mut self.values),
         }
@@ -124,6 +136,7 @@ impl Pools {
             Job::Difference => fast::difference(left, right, out),
             Job::CoveringDifference => fast::covering_difference(left, right, out),
             Job::CoveringUnion => fast::covering_union(left, right, out),
+            Job::CoveringUnionExact => fast::covering_union(left, right, &mut out[..self.exact]),
             Job::EqualKeys => usize::from(fast::equal_keys(left, left)),
             Job::Tidy => fast::tidy(left, &mut self.tidy, &mut self.values).0,
         }

@@ -24,7 +24,7 @@ fn main() {
     let plot_file = std::env::args().nth(1);
     println!("seed {SEED}; a pool: each node below one drawn from all, one in five without data, the right pool is the left one with");
     println!("a third of the nodes' data drawn anew and one node in twenty cut off; roots 0/0; equality: a pool against itself.");
-    println!("ns a node: of the left pool. A list's Rust walks and writes once and checks nothing; ours checks both pools, counts, then writes.");
+    println!("ns a node: of the left pool. A list's Rust walks and writes once and checks nothing; ours checks both pools and writes; without spare room it counts first.");
     println!();
     println!("| width | nodes | job | Rust, us | ours, us | ours without checks, us | Rust / ours | Rust / ours without checks | ours, ns a node |");
     println!("|---|---|---|---|---|---|---|---|---|");

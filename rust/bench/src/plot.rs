@@ -6,8 +6,9 @@ use std::fmt::Write as _;
 
 const WIDTH: f64 = 1160.0;
 const PANEL: (f64, f64) = (380.0, 300.0);
-const COLOURS: [&str; 8] = [
-    "#555555", "#1f77b4", "#2a9d8f", "#8c6d31", "#d62728", "#9467bd", "#e08214", "#c51b7d",
+const COLOURS: [&str; 9] = [
+    "#555555", "#1f77b4", "#2a9d8f", "#8c6d31", "#d62728", "#9467bd", "#17a2c4", "#e08214",
+    "#c51b7d",
 ];
 
 /// A panel's place, its title, and what it shows of a row.
