@@ -31,7 +31,7 @@ use denote.Triple.Table.{entered}
 use denote.Triple.Walked.{says, Stays, stay-none, walkOf, goes-none, Walks, ends-at, walked, walk-meets}
 use denote.Exit.{yes}
 use Rattle.views.specs.declared.Opened.{Opened}
-use Rattle.views.specs.Views.{viewOf}
+use Rattle.views.specs.declared.View.{View}
 use Rattle.views.proofs.Opened as T
 use Rattle.views.proofs.Opened.Laws as T′
 use Rattle.views.proofs.View.Laws as V′
@@ -41,6 +41,10 @@ use Rattle.views.proofs.view_of as self
 use Rattle.views.proofs.view_of.Statement as stated
 use Rattle.views.proofs.view_of.Code as code
 
+-- the view that is made
+abbrev made : Opened → View
+made d = record { words = d .words; width = d .width; key = d .key; len = d .len }
+
 -- the type of what was opened, over the signature's lifetimes
 abbrev B : Lfts 1 → RattleType
 B κs = T.the-row (namedLft 1 0 tt κs)
@@ -48,7 +52,7 @@ B κs = T.the-row (namedLft 1 0 tt κs)
 abbrev stayed : Stays (self.ended .signature .params) (self.ended .kept)
 stayed = (stay-none B yes, tt)
 
-module _ {M : Type 1} (𝓤 : URA M) (H : Heap 𝓤) (A : Atoms 𝓤) (W : Given 𝓤 H A) (mem : Memory → SProp 𝓤) (run : Routine → Fun 𝓤) (κ : Lft) (q : Share) (d : Opened) (fits : Fits (viewOf d)) where
+module _ {M : Type 1} (𝓤 : URA M) (H : Heap 𝓤) (A : Atoms 𝓤) (W : Given 𝓤 H A) (mem : Memory → SProp 𝓤) (run : Routine → Fun 𝓤) (κ : Lft) (q : Share) (d : Opened) (fits : Fits (made d)) where
   abbrev α : NamedLft
   α = namedLft 1 0 tt (κ, tt)
 
@@ -71,14 +75,14 @@ module _ {M : Type 1} (𝓤 : URA M) (H : Heap 𝓤) (A : Atoms 𝓤) (W : Given
   abbrev vd : Values (D .parts)
   vd = (d .number, (d .beside, (d .words, (d .width, (d .key, (d .len, tt))))))
 
-  exits : ent 𝓤 (onEntry 𝓤 H A self.signature (κ, tt) (q, tt) (d, tt) (mach ∷ [], tt)) (Post (V′.lowered (viewOf d)))
+  exits : ent 𝓤 (onEntry 𝓤 H A self.signature (κ, tt) (q, tt) (d, tt) (mach ∷ [], tt)) (Post (V′.lowered (made d)))
   exits =
       qed W ((‵ (flft κ q) ⊛ ‵ ftrue) ∷ ‵ (owns (B (κ, tt) ∷ []) (d, tt) (mach ∷ [], tt)) ∷ []) ∵
-      suffices ! _ (ends-at 𝓤 H A self.ended stayed (self.clauses 𝓤 H A mem run) W (((κ, tt), (q, tt), tt, (d, tt), (mach ∷ [], tt)), tt) (V′.lowered (viewOf d)) (viewOf d) (tt, tt) (tt, tt)) $ says ! refl $
+      suffices ! _ (ends-at 𝓤 H A self.ended stayed (self.clauses 𝓤 H A mem run) W (((κ, tt), (q, tt), tt, (d, tt), (mach ∷ [], tt)), tt) (V′.lowered (made d)) (made d) (tt, tt) (tt, tt)) $ says ! refl $
       frame ! $ fsplit ! $ use1 W (‵ Own ⊛ ‵ Own) (LL.copy D (T′.the-copy α) 𝓤 H A W .twice d (mach ∷ [])) $ split ! $ move ! (0 ∷ 2 ∷ []) $ fjoin ! $ frame ! $
       -- [what the struct owns]: its words, with numbers that fit, are the view
       use1 W (given (mach ∷ [] ≡ mach ∷ []) (‵ (all-own (D .parts) L vd))) (own-open 𝓤 H A W D L vd mach) $ learn ! (λ _.
-      use1 W (‵ (ownAt (D .parts) L 2 (d .words)) ⊛ ‵ (rest (D .parts) L 2 vd)) (own-out 𝓤 H A W (D .parts) L 2 vd) $ split ! $ move ! (1 ∷ []) $ drop ! $ by ! (holds α (viewOf d) 𝓤 H A W fits))
+      use1 W (‵ (ownAt (D .parts) L 2 (d .words)) ⊛ ‵ (rest (D .parts) L 2 vd)) (own-out 𝓤 H A W (D .parts) L 2 vd) $ split ! $ move ! (1 ∷ []) $ drop ! $ by ! (holds α (made d) 𝓤 H A W fits))
 
   module _ (C : Calls 𝓤 H) (Λ : Loops 𝓤 H) where
     walk : Holds (hasTy (T′.mir (named 0)) mach) × WT mach → ent 𝓤 (onEntry 𝓤 H A self.signature (κ, tt) (q, tt) (d, tt) (mach ∷ [], tt)) (WpFn 𝓤 H C Λ code.function (mach ∷ []) Post)
