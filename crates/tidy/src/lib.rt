@@ -390,8 +390,8 @@ fn write(words: &[u32], root: Prefix, out: &mut [u32], values: &mut [u32])
     }
 }
 
-// The first of the refusals 1, 2 and 4, or 0.
-fn refusal(width: u32, words: &[u32], root: Prefix) -> Answer
+// The first of the refusals 1, 2 and 4 of one side, or 0.
+pub fn refusal(width: u32, words: &[u32], root: Prefix) -> Answer
     ensures { λ a. ⌜ a ≡ firstOf (poolRows width (sideOf (now (words .entry)) root)) 0 ⌝ }
 {
     let a = pool::check(width, words);

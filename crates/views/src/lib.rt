@@ -5,6 +5,7 @@ ghost use Rattle.defs.specs.Outcome.{listOutcome, equalOutcome, tidyOutcome};
 ghost use Rattle.lhamtrovi.specs.Plain.{side};
 ghost use Rattle.views.specs.Views.{sideOf, openOutcome, opened, viewOf};
 use defs::Answer;
+use defs::Prefix;
 
 // A view: pool words, width, and the root's key and length.
 pub struct View<'a> {
@@ -28,17 +29,8 @@ pub struct Opened<'a> {
 fn refusal(width: u32, words: &[u32], len: u32) -> Answer
     ensures { λ a. ⌜ a ≡ openOutcome width (side (now (words .entry)) 0 len) ⌝ }
 {
-    let a = pool::check(width, words);
-    if a.number == 1 {
-        return Answer::new(1, 0);
-    }
-    if a.number == 2 {
-        return Answer::new(2, a.beside);
-    }
-    if width < len {
-        return Answer::new(4, 0);
-    }
-    Answer::new(0, 0)
+    let root = Prefix { key: 0, len };
+    tidy::refusal(width, words, root)
 }
 
 // Checks the width, the words and the root, and holds them together.
