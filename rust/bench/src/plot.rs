@@ -4,7 +4,7 @@ use crate::jobs::{self, Job};
 use crate::Row;
 use std::fmt::Write as _;
 
-const WIDTH: f64 = 1160.0;
+const WIDTH: f64 = 1280.0;
 const PANEL: (f64, f64) = (380.0, 300.0);
 const COLOURS: [&str; 9] = [
     "#555555", "#1f77b4", "#2a9d8f", "#8c6d31", "#d62728", "#9467bd", "#17a2c4", "#e08214",
@@ -152,7 +152,7 @@ pub fn svg(rows: &[Row]) -> String {
             ticks: &[5.0, 10.0, 20.0, 50.0, 100.0, 200.0, 500.0, 1000.0],
         };
         let ratio = Panel {
-            left: 640.0,
+            left: 700.0,
             top,
             title: format!("width {width}: Rust's time / ours, checks taken off"),
             value: |row| row.times.rust / row.times.ours_alone,
