@@ -6,7 +6,7 @@ help: ## this list
 
 FILE ?= crates/prefixsets/stdin
 run: ## prove, build and run the text program on FILE, or on the covering union of the manual's A and B
-	@tests/tools
+	@tests/tools >&2
 	@mkdir -p build
 	@rt check prefixsets > build/rt-check.log 2>&1 || { tail -n 20 build/rt-check.log; exit 1; }
 	@target/bin/prefixsets < $(FILE)
@@ -29,7 +29,8 @@ bench: lib ## time the library against ordinary fast Rust; the table goes to doc
 
 COUNT ?= 1000000
 SEED ?= 1
-compare: lib ## compare the library, and the program as built, with the reference on COUNT random cases of SEED
+compare: lib ## compare the library and the text program with the reference on COUNT random cases of SEED
+	@rt check prefixsets > build/rt-check.log 2>&1 || { tail -n 20 build/rt-check.log; exit 1; }
 	@cargo build --offline --release --quiet --manifest-path rust/Cargo.toml -p compare
 	@rust/target/release/compare $(COUNT) $(SEED)
 

@@ -14,7 +14,7 @@
 #define SAID (8 * 1024)
 #define FILL 0xa5
 
-/* Thirteen nodes one below the other at width 64; the odd ones have a twin beside them, so that emptiness is asked at every level. */
+/* Thirteen levels at width 64; below the root each has two nodes, of which the second goes on, so that emptiness is asked at every level. */
 static uint32_t chain[4 * 26], empty[4 * 26];
 static size_t words;
 static uint64_t out[6 * 1024];
@@ -51,6 +51,9 @@ static void run(void) {
     case 6: a = lhamtrovi_equal_keys(64, chain, n, 0, 0, chain, n, 0, 0); break;
     case 7: a = lhamtrovi_tidy(64, chain, n, 0, 0, tidy, 4 * 64, values, 1024); break;
     case 8: a = lhamtrovi_tidy(64, chain, n, UINT64_MAX, 64, tidy, 4 * 64, values, 1024); break;
+    case 10: a = lhamtrovi_covering_union(64, chain, n, 0, 0, chain, n, 0, 0, out, 6 * 31); break;
+    case 11: a = lhamtrovi_union(64, chain, n, 0, 1, chain, n, UINT64_MAX, 64, out, room); break;
+    case 12: a = lhamtrovi_covering_difference(64, chain, n, UINT64_MAX, 64, chain, n, UINT64_MAX, 60, out, room); break;
     case 9: a = lhamtrovi_tidy(64, empty, n, 0, 0, tidy, 4 * 64, values, 1024); break;
     }
     if (a.number != 0) {
@@ -60,12 +63,12 @@ static void run(void) {
 }
 
 int main(void) {
-    static const char *const names[] = {"check", "union", "intersection", "difference", "covering difference", "covering union", "equality", "tidy", "tidy at a root", "tidy of nothing"};
+    static const char *const names[] = {"check", "union", "intersection", "difference", "covering difference", "covering union", "equality", "tidy", "tidy at a root", "tidy of nothing", "covering union, counted first", "union at two roots", "covering difference at two roots"};
     static unsigned char stack[STACK];
     static int too_much;
     fill_chain(chain, 0x7fffffff);
     fill_chain(empty, 0);
-    for (job = 0; job < 10; job++) {
+    for (job = 0; job < 13; job++) {
         memset(stack, FILL, sizeof stack);
         getcontext(&there);
         there.uc_stack.ss_sp = stack;

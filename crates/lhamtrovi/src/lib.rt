@@ -6,7 +6,7 @@ ghost use Rattle.lhamtrovi.specs.Plain.{side};
 use defs::Answer;
 use defs::Prefix;
 
-// D8: whether a pool is well-formed, and its first fault.
+// Whether a pool is well-formed, and its first fault.
 #[no_mangle]
 pub extern "C" fn lhamtrovi_check(width: u32, pool: &[u32]) -> Answer
     ensures { λ a. ⌜ a ≡ checkOutcome width (now (pool .entry)) ⌝ }

@@ -1,4 +1,4 @@
-// A view as one value: the pool's words, the width, and the root's key and length. Whoever holds the fields can make one, so each function takes it apart and makes the plain call, which checks everything again.
+// A view as one value: the pool's words, the width, and the root's key and length. Whoever holds the fields can make one, so each call over views takes them apart and makes the plain call, which checks everything again.
 ghost use mathlib.Core.Path.{_≡_};
 ghost use Rattle.defs.specs.declared.Operation.the-variants.{Union, Intersection, Difference, CoveringDifference, CoveringUnion};
 ghost use Rattle.defs.specs.Outcome.{listOutcome, equalOutcome, tidyOutcome};

@@ -16,8 +16,9 @@ cidr: lists of networks for the text program, and its answers for people. Not pr
 
     cidr input OPERATION LEFT RIGHT [--left-root NET] [--right-root NET]
         writes the text program's input for two files of networks
-    cidr output [--ipv6] [--equality]
-        reads the text program's output from standard input and writes networks
+    cidr output INPUT
+        reads the text program's output from standard input and writes networks; INPUT is the
+        input that it answers, which says the width and the operation
     cidr pool LIST
         writes the words of a list's pool, a node to a line, for programs in C or Rust
 
@@ -25,7 +26,8 @@ A file has a network to a line, such as 10.0.0.0/8 or 2001:db8::/32, IPv4 and IP
 empty lines and lines that begin with # are passed over. IPv6 prefixes have at most 64 bits.
 OPERATION: union, intersection, difference, covering-difference, covering-union, equality.
 
-    cidr input covering-difference believed forbidden | prefixsets | cidr output
+    cidr input covering-difference believed forbidden > input
+    prefixsets < input | cidr output input
 
 Exit status: 0 done, 1 the text program refused the call, 2 bad arguments or a bad file.
 ";
@@ -47,7 +49,7 @@ fn main() -> ExitCode {
         ["input", operation, left, right, ref roots @ ..] => {
             to_input(operation, left, right, roots)
         }
-        ["output", ref options @ ..] => from_output(options),
+        ["output", input] => from_output(input),
         ["pool", file] => pool(file),
         _ => Err("bad arguments; 'cidr --help' says what there is".to_string()),
     };
@@ -96,20 +98,14 @@ fn to_input(operation: &str, left: &str, right: &str, options: &[&str]) -> Resul
 }
 
 /// The program's output for people.
-fn from_output(options: &[&str]) -> Result<bool, String> {
-    let (mut width, mut equality) = (32, false);
-    for &option in options {
-        match option {
-            "--ipv6" => width = 64,
-            "--equality" => equality = true,
-            _ => return Err(format!("'{option}' is no option")),
-        }
-    }
+fn from_output(file: &str) -> Result<bool, String> {
+    let input = std::fs::read_to_string(file).map_err(|e| format!("{file}: {e}"))?;
+    let asked = output::Asked::of(&input).map_err(|e| format!("{file}: {e}"))?;
     let mut output = String::new();
     std::io::stdin()
         .read_to_string(&mut output)
         .map_err(|e| format!("cannot read: {e}"))?;
-    let report = output::report(width, equality, &output)?;
+    let report = output::report(&asked, &output)?;
     show(&report.text)?;
     Ok(report.done)
 }

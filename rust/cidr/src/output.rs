@@ -9,8 +9,34 @@ pub struct Report {
     pub done: bool,
 }
 
-/// The width that keys of records were meant for: given, or 32.
-pub fn report(width: u32, equality: bool, output: &str) -> Result<Report, String> {
+/// What an input asked for, as far as its answer cannot tell.
+pub struct Asked {
+    pub width: u32,
+    pub equality: bool,
+}
+
+impl Asked {
+    /// The first two lines of the program's input.
+    pub fn of(input: &str) -> Result<Asked, String> {
+        let mut lines = input.lines();
+        let width = match lines.next() {
+            Some("W\t32") => 32,
+            Some("W\t64") => 64,
+            _ => return Err("its first line is not W with a width of 32 or 64".to_string()),
+        };
+        match lines.next().and_then(|line| line.strip_prefix("O\t")) {
+            Some(operation) => Ok(Asked {
+                width,
+                equality: operation == "equality",
+            }),
+            None => Err("its second line is not O with an operation".to_string()),
+        }
+    }
+}
+
+/// The program's output as lines for people.
+pub fn report(asked: &Asked, output: &str) -> Result<Report, String> {
+    let Asked { width, equality } = *asked;
     let mut text = String::new();
     let mut lines = output.lines().enumerate();
     let last = loop {

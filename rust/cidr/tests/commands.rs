@@ -43,6 +43,12 @@ fn refused(arguments: &[&str], input: &str) -> String {
     String::from_utf8(output.stderr).expect("it is text")
 }
 
+/// An input of this width and operation, as far as the converter reads it back.
+fn input_of(width: u32, operation: &str) -> String {
+    let name = format!("asked-{width}-{operation}");
+    file(&name, format!("W\t{width}\nO\t{operation}\n").as_bytes())
+}
+
 #[test]
 fn manual_lists_a_and_b_become_their_input() {
     let a = file("a", b"0.0.0.0/0\n10.128.0.0/9\n10.0.0.0/8\n");
@@ -53,8 +59,9 @@ fn manual_lists_a_and_b_become_their_input() {
 
 #[test]
 fn records_become_networks() {
+    let input = input_of(32, "covering-union");
     let text = done(
-        &["output"],
+        &["output", &input],
         include_str!("../../../crates/prefixsets/stdout"),
     );
     let expected = "left\t0.0.0.0/0\nleft\t10.0.0.0/8\nright\t10.0.0.0/9\tinside left 10.0.0.0/8\nboth\t10.128.0.0/9\n\
@@ -72,25 +79,31 @@ fn first_half_of_ipv6_is_a_pool_of_width_64() {
     assert!(text.starts_with("W\t64\nO\tunion\nL\t20010db800000000\t48\nR\t0000000000000000\t0\n"));
     let record = "L\t20010db800000001\t64\t1\t-\t32\nE\t0\t1\n";
     let line = "left\t2001:db8:0:1::/64\tinside right 2001:db8::/32\n1 network\n";
-    assert_eq!(done(&["output", "--ipv6"], record), line);
+    assert_eq!(
+        done(&["output", &input_of(64, "covering-union")], record),
+        line
+    );
 }
 
 #[test]
 fn equality_is_told_in_words() {
     assert_eq!(
-        done(&["output", "--equality"], "E\t0\t1\n"),
+        done(&["output", &input_of(32, "equality")], "E\t0\t1\n"),
         "the same networks\n"
     );
     assert_eq!(
-        done(&["output", "--equality"], "E\t0\t0\n"),
+        done(&["output", &input_of(32, "equality")], "E\t0\t0\n"),
         "not the same networks\n"
     );
-    assert_eq!(done(&["output"], "E\t0\t0\n"), "0 networks\n");
+    assert_eq!(
+        done(&["output", &input_of(32, "union")], "E\t0\t0\n"),
+        "0 networks\n"
+    );
 }
 
 #[test]
 fn refusal_of_the_program_is_told_with_status_1() {
-    let output = run(&["output"], "E\t4\t0\n");
+    let output = run(&["output", &input_of(32, "union")], "E\t4\t0\n");
     assert_eq!(output.status.code(), Some(1));
     assert_eq!(
         output.stdout,
@@ -141,17 +154,25 @@ fn missing_file_and_bad_arguments_are_told() {
     assert!(refused(&["pool", "no such file"], "").starts_with("cidr: no such file: "));
     assert!(refused(&[], "").contains("--help"));
     assert!(refused(&["input", "unoin", "a", "b"], "").contains("'unoin' is no operation"));
-    assert!(refused(&["output", "--six"], "").contains("'--six' is no option"));
+    assert!(refused(&["output"], "").contains("--help"));
+    assert!(refused(&["output", "no such file"], "").starts_with("cidr: no such file: "));
+    let bad = file("no-width", b"W\t33\nO\tunion\n");
+    assert!(refused(&["output", &bad], "").contains("first line"));
+    let bad = file("no-operation", b"W\t32\n");
+    assert!(refused(&["output", &bad], "").contains("second line"));
     assert!(refused(&["input", "union", "a", "b", "--root", "::/0"], "").contains("'--root'"));
     assert!(done(&["--help"], "").contains("cidr input OPERATION LEFT RIGHT"));
 }
 
 #[test]
 fn output_that_is_none_is_told() {
-    assert!(refused(&["output"], "").contains("no E line"));
-    assert!(refused(&["output"], "L\t1\n").contains("line 1: neither"));
-    assert!(refused(&["output"], "L\tzz\t0\t0\t-\t-\nE\t0\t1\n").contains("line 1: no record"));
-    assert!(refused(&["output"], "E\t0\t0\nE\t0\t0\n").contains("after the E line"));
+    let input = input_of(32, "union");
+    assert!(refused(&["output", &input], "").contains("no E line"));
+    assert!(refused(&["output", &input], "L\t1\n").contains("line 1: neither"));
+    assert!(
+        refused(&["output", &input], "L\tzz\t0\t0\t-\t-\nE\t0\t1\n").contains("line 1: no record")
+    );
+    assert!(refused(&["output", &input], "E\t0\t0\nE\t0\t0\n").contains("after the E line"));
 }
 
 #[test]
