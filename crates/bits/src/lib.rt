@@ -16,7 +16,7 @@ fn least(a: u32, b: u32) -> u32
 }
 
 // The word whose first len bits are 1. What is taken off is shifted by less than 64, so length 0 needs no case of its own.
-pub fn mask(len: u32) -> u64
+fn mask(len: u32) -> u64
     ensures { λ r. ⌜ r ≡ maskOf len ⌝ }
 {
     if len < 64 {
@@ -100,7 +100,7 @@ pub fn place_len(h: u32) -> u32
 }
 
 // The value of the bits that place h adds: its number without the highest one.
-pub fn place_value(h: u32) -> u32
+fn place_value(h: u32) -> u32
     ensures { λ r. ⌜ r ≡ placeValue h ⌝ }
 {
     if h == 0 {

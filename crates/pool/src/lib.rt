@@ -12,7 +12,7 @@ ghost use Rattle.pool.specs.Counting.{Bounded, levelOf, afterOf, stepOf,
 use defs::Answer;
 
 // The width is one that prefixes have.
-pub fn known_width(width: u32) -> bool
+fn known_width(width: u32) -> bool
     ensures { λ r. ⌜ r ≡ (eqb width 32 || eqb width 64) ⌝ }
 {
     if width == 32 {

@@ -44,7 +44,7 @@ fn put_words(out: &mut [u64], p: Prefix, tag: u64, left: u64, right: u64, cover:
 }
 
 // The words of an item. A cover's value stands in the other side's value word.
-pub fn put(out: &mut [u64], i: Item)
+fn put(out: &mut [u64], i: Item)
     requires { ⌜ recordWords ≤ length (now out) ⌝ }
     ensures { λ _. ⌜ now (out .exit) ≡ wordsOf (itemRecord i) ++ drop recordWords (now (out .entry)) ⌝ }
 {

@@ -223,7 +223,7 @@ pub enum Found {
 }
 
 // The place of a root, at depth len / 5 * 5; a root of length 64 lies in a node at depth 60.
-pub fn find(words: &[u32], root: Prefix) -> Found
+fn find(words: &[u32], root: Prefix) -> Found
     requires { ⌜ Sane (now words) × (root .len ≤ 64) ⌝ }
     ensures { λ r. ⌜ r ≡ foundOf (now (words .entry)) root ⌝ }
 {

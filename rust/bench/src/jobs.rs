@@ -47,15 +47,6 @@ impl Job {
             Job::Tidy => "tidy",
         }
     }
-
-    /// How many checks of a pool of this size are inside our call.
-    pub fn checks(self) -> f64 {
-        match self {
-            Job::Check => 0.0,
-            Job::Tidy => 1.0,
-            _ => 2.0,
-        }
-    }
 }
 
 /// The pools and buffers of a row.
@@ -145,6 +136,24 @@ impl Pools {
     /// Runs the job by the proved library.
     pub fn ours(&mut self, job: Job) {
         black_box(self.answer(job));
+    }
+
+    /// Runs the checks that our call makes by itself; the check's own row has none to take off.
+    pub fn checks(&mut self, job: Job) {
+        match job {
+            Job::Check => {}
+            Job::Tidy => {
+                black_box(plain::check(self.width, black_box(&self.left)));
+            }
+            Job::EqualKeys => {
+                black_box(plain::check(self.width, black_box(&self.left)));
+                black_box(plain::check(self.width, black_box(&self.left)));
+            }
+            _ => {
+                black_box(plain::check(self.width, black_box(&self.left)));
+                black_box(plain::check(self.width, black_box(&self.right)));
+            }
+        }
     }
 
     /// Runs the job by fast Rust.

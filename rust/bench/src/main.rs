@@ -33,18 +33,13 @@ fn main() {
         for nodes in SIZES {
             eprintln!("width {width}, {nodes} nodes");
             let mut pools = Pools::new(SEED, width, nodes);
-            let mut checks = 0.0;
             for job in jobs::ALL {
                 pools.agree(job);
-                let times = pair(&mut pools, job);
-                if job == Job::Check {
-                    checks = times.ours;
-                }
                 let row = Row {
                     width,
                     nodes,
                     job,
-                    times: times.without(checks * job.checks()),
+                    times: pair(&mut pools, job),
                 };
                 println!("{}", line(&row));
                 rows.push(row);

@@ -8,18 +8,8 @@ use std::time::{Duration, Instant};
 pub struct Times {
     pub rust: f64,
     pub ours: f64,
-    /// Ours with the time of its pool checks taken off.
+    /// Ours with the time of its pool checks, as they took in the same turns, taken off.
     pub ours_alone: f64,
-}
-
-impl Times {
-    /// The same with this much taken off for checks.
-    pub fn without(self, checks: f64) -> Times {
-        Times {
-            ours_alone: self.ours - checks,
-            ..self
-        }
-    }
 }
 
 const TURNS: usize = 15;
@@ -51,19 +41,21 @@ fn middle(mut times: Vec<f64>) -> f64 {
     times[times.len() / 2]
 }
 
-/// The median of the turns of each, the two taking turns.
+/// The median of the turns of each, the two and our checks alone taking turns.
 pub fn pair(pools: &mut Pools, job: Job) -> Times {
     let rust_count = repeats(|| pools.rust(job));
     let our_count = repeats(|| pools.ours(job));
-    let (mut rust, mut ours) = (Vec::new(), Vec::new());
+    let (mut rust, mut ours, mut alone) = (Vec::new(), Vec::new(), Vec::new());
     for _ in 0..TURNS {
         rust.push(time(rust_count, || pools.rust(job)));
-        ours.push(time(our_count, || pools.ours(job)));
+        let whole = time(our_count, || pools.ours(job));
+        let checks = time(our_count, || pools.checks(job));
+        ours.push(whole);
+        alone.push(whole - checks);
     }
-    let ours = middle(ours);
     Times {
         rust: middle(rust),
-        ours,
-        ours_alone: ours,
+        ours: middle(ours),
+        ours_alone: middle(alone),
     }
 }
