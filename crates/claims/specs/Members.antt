@@ -3,7 +3,7 @@ use mathlib.Core.Path.{_≡_, refl, sym, _∙_, ap, subst}
 use mathlib.Core.Bool.{Bool, true, false, not, _&&_, _||_, and-comm}
 use mathlib.Core.List.{List, [], _∷_, map, List·Memᴰ, List·Memᴰ·head, List·Memᴰ·tail, List·Memᴰ·cases-cons}
 use mathlib.Core.Logic.{_↔_, _⊎_, inl, inr, ⊎-elim}
-use mathlib.Core.Option.{Option, none, some}
+use mathlib.Core.Option.{none, some}
 use Rattle.defs.specs.declared.Prefix.{Prefix}
 use Rattle.defs.specs.declared.Operation.{Operation}
 use Rattle.defs.specs.declared.Operation.the-variants.{Union, Intersection, Difference, CoveringDifference, CoveringUnion}
@@ -14,19 +14,9 @@ use Rattle.defs.specs.Lists.{Record, plain, covered, leftOnly, find, isIn, isLe
 use Rattle.defs.specs.Lemmas.{All, more, split, not-both, is-false, and-left, and-right, all-kept, map-map, map-ext, keep-map}
 use Rattle.defs.specs.PrefixLaws.{same-self, same-says}
 use Rattle.defs.specs.OrderLaws.{among, among-merge, among-keep}
-use Rattle.defs.specs.ListLaws.{prefixOf}
+use Rattle.defs.specs.ListLaws.{prefixOf, prefix-plain, prefix-covered}
 use Rattle.tidied.specs.ListFacts.{any-map}
 use Rattle.claims.specs.Terms.{HasRecord, HasEntry, HasLeading}
-
-pub prefix-plain : (p : Prefix) (l r : Option Entry) → prefixOf (plain p l r) ≡ p
-prefix-plain p none r = refl
-prefix-plain p (some l) none = refl
-prefix-plain p (some l) (some r) = refl
-
-pub prefix-covered : (p : Prefix) (l r c d : Option Entry) → prefixOf (covered p l r c d) ≡ p
-prefix-covered p none r c d = refl
-prefix-covered p (some l) none c d = refl
-prefix-covered p (some l) (some r) c d = refl
 
 -- the prefixes of the records of a list, in order
 abbrev pub listPrefixes : Operation → List Entry → List Entry → List Prefix

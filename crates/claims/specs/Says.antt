@@ -16,9 +16,9 @@ use Rattle.defs.specs.Lemmas.{All, nil, more, split, not-both, is-false, and-le
 use Rattle.defs.specs.PrefixLaws.{Whole, same-self, same-says, before-irrefl, leads-self}
 use Rattle.defs.specs.OrderLaws.{Ascends, then-after, among}
 use Rattle.defs.specs.EntryLaws.{view-real}
-use Rattle.defs.specs.ListLaws.{prefixOf, IsLongest, cover-is-longest}
+use Rattle.defs.specs.ListLaws.{prefixOf, IsLongest, cover-is-longest, prefix-plain, prefix-covered}
 use Rattle.claims.specs.Terms.{says, tagOf, CoveringUnionSays, both, left, right}
-use Rattle.claims.specs.Members.{prefix-plain, prefix-covered, listPrefixes, list-prefixes, belongs, members}
+use Rattle.claims.specs.Members.{listPrefixes, list-prefixes, belongs, members}
 
 -- there is one
 abbrev pub has : Option Entry → Bool

@@ -2,6 +2,9 @@
 use mathlib.Core.Path.{_≡_, refl, sym, _∙_, ap}
 use mathlib.Core.Bool.{Bool, true, false, _&&_, _||_, true≢false, false≢true}
 use mathlib.Core.List.{List, [], _∷_, _++_, map, append-assoc}
+use Prim.Native.Nat.{_≤_}
+use native.Mathlib.Omega.{arith}
+use lib.ListN.{length}
 use Rattle.defs.specs.Basics.{keep, any, each}
 
 -- a test passes or fails
@@ -119,3 +122,14 @@ module _ {A B : Type 0} where
 pub map-map : {A B C : Type 0} (f : B → C) (g : A → B) (a : List A) → map f (map g a) ≡ map (λ x. f (g x)) a
 map-map f g [] = refl
 map-map f g (x ∷ a) = ap (f (g x) ∷_) (map-map f g a)
+
+-- two tests that pass together are equal
+pub both-ways : (a b : Bool) → (a ≡ true → b ≡ true) → (b ≡ true → a ≡ true) → a ≡ b
+both-ways true b f g = sym (f refl)
+both-ways false true f g = g refl
+both-ways false false f g = refl
+
+-- what is kept of a list is no longer than the list
+pub length-keep : {A : Type 0} (f : A → Bool) (a : List A) → length (keep f a) ≤ length a
+length-keep f [] = omega arith
+length-keep f (x ∷ a) = split (f x) (λ e. rw (e, keep) (omega (arith, length-keep f a))) (λ e. rw (e, keep) (omega (arith, length-keep f a)))

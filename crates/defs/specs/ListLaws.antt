@@ -20,12 +20,13 @@ use Rattle.defs.specs.OrderLaws.{Ascends, then-after, merge-ascends, asc
 abbrev pub prefixOf : Record → Prefix
 prefixOf r = record { key = r .key; len = r .len }
 
-prefix-plain : (p : Prefix) (l r : Option Entry) → prefixOf (plain p l r) ≡ p
+-- a record has the prefix that it is made for
+pub prefix-plain : (p : Prefix) (l r : Option Entry) → prefixOf (plain p l r) ≡ p
 prefix-plain p none r = refl
 prefix-plain p (some l) none = refl
 prefix-plain p (some l) (some r) = refl
 
-prefix-covered : (p : Prefix) (l r c d : Option Entry) → prefixOf (covered p l r c d) ≡ p
+pub prefix-covered : (p : Prefix) (l r c d : Option Entry) → prefixOf (covered p l r c d) ≡ p
 prefix-covered p none r c d = refl
 prefix-covered p (some l) none c d = refl
 prefix-covered p (some l) (some r) c d = refl

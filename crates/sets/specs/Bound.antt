@@ -18,7 +18,7 @@ use Rattle.defs.specs.Entries.{Entry, Place, dataPlace, childPlace, placesAt, p
 use Rattle.defs.specs.Check.{poolLimit}
 use Rattle.defs.specs.Lists.{put, merge, allOf, find, isIn, isLed, longest, plain, covered, leftOnly, recordsOf}
 use Rattle.defs.specs.Outcome.{Side, entriesOf}
-use Rattle.defs.specs.Lemmas.{split, each-append}
+use Rattle.defs.specs.Lemmas.{length-keep, split, each-append}
 use Rattle.bits.specs.WordLaws.{rank-le, rank-suc}
 use Rattle.pool.specs.Sound.{Formed, childrenBefore, valuesBefore, children-mono, children-all, values-mono, values-small}
 use Rattle.view.specs.Spreads.{one}
@@ -158,14 +158,6 @@ module _ (width : ℕ) (w : List ℕ) (formed : Formed width w) where
   pub all-most : length (allEntries w) ≤ valuesBefore w (nodeCount w)
   all-most = omega (arith, entries-most w 13 0 top, level-most 13 0 1 (formed .some) (omega arith))
 
-keep-most : {A : Type 0} (f : A → Bool) (a : List A) → length (keep f a) ≤ length a
-keep-most f [] = omega arith
-keep-most f (x ∷ a) = go (f x) (keep-most f a)
-  where
-    go : (b : Bool) → length (keep f a) ≤ length a → length (if b then x ∷ keep f a else keep f a) ≤ suc (length a)
-    go true h = omega arith
-    go false h = omega arith
-
 put-most : (p : Prefix) (a : List Prefix) → length (put p a) ≤ suc (length a)
 put-most p [] = omega arith
 put-most p (q ∷ a) = go (before p q) (before q p) (put-most p a)
@@ -191,9 +183,9 @@ records-most : (op : Operation) (L R : List Entry) → length (recordsOf op L R)
 records-most Union L R =
     rw (length-map (allOf L R) (λ p. plain p (find p L) (find p R)))
     (omega (arith, merge-most (prefixes L) (prefixes R), length-map L (λ (e : Entry). e .at), length-map R (λ (e : Entry). e .at)))
-records-most Intersection L R = rw (length-map (keep (λ e. isIn (e .at) R) L) (λ e. plain (e .at) (some e) (find (e .at) R))) (keep-most (λ e. isIn (e .at) R) L)
-records-most Difference L R = rw (length-map (keep (λ e. not (isIn (e .at) R)) L) leftOnly) (keep-most (λ e. not (isIn (e .at) R)) L)
-records-most CoveringDifference L R = rw (length-map (keep (λ e. not (isLed (e .at) R)) L) leftOnly) (keep-most (λ e. not (isLed (e .at) R)) L)
+records-most Intersection L R = rw (length-map (keep (λ e. isIn (e .at) R) L) (λ e. plain (e .at) (some e) (find (e .at) R))) (length-keep (λ e. isIn (e .at) R) L)
+records-most Difference L R = rw (length-map (keep (λ e. not (isIn (e .at) R)) L) leftOnly) (length-keep (λ e. not (isIn (e .at) R)) L)
+records-most CoveringDifference L R = rw (length-map (keep (λ e. not (isLed (e .at) R)) L) leftOnly) (length-keep (λ e. not (isLed (e .at) R)) L)
 records-most CoveringUnion L R =
     rw (length-map (allOf L R) (λ p. covered p (find p L) (find p R) (longest none L p) (longest none R p)))
     (omega (arith, merge-most (prefixes L) (prefixes R), length-map L (λ (e : Entry). e .at), length-map R (λ (e : Entry). e .at)))
@@ -215,8 +207,8 @@ module _ (op : Operation) (width : ℕ) (l r : Side) (f : Formed width (l .pool)
   list-most =
       le-trans (records-most op (entriesOf l) (entriesOf r))
       (most-grows op _ _ _ _
-      (omega (arith, keep-most (λ e. leads (l .root) (e .at)) (allEntries (l .pool)), all-most width (l .pool) f))
-      (omega (arith, keep-most (λ e. leads (r .root) (e .at)) (allEntries (r .pool)), all-most width (r .pool) g)))
+      (omega (arith, length-keep (λ e. leads (l .root) (e .at)) (allEntries (l .pool)), all-most width (l .pool) f))
+      (omega (arith, length-keep (λ e. leads (r .root) (e .at)) (allEntries (r .pool)), all-most width (r .pool) g)))
 
 -- a pool has at most 31 values for each node
 pub values-fit : (width : ℕ) (w : List ℕ) → Formed width w → valuesOf w ≤ 31 * poolLimit

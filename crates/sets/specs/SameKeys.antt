@@ -14,7 +14,7 @@ use Rattle.defs.specs.Prefix.{deeper}
 use Rattle.defs.specs.Pool.{bit, dataBit}
 use Rattle.defs.specs.Entries.{Entry, Place, dataPlace, childPlace, places, prefixes, entriesAt}
 use Rattle.defs.specs.Lists.{isIn, leftOnly, recordsOf, sameKeys}
-use Rattle.defs.specs.Lemmas.{All, nil, all-imp, split, and-left, and-right, each-on}
+use Rattle.defs.specs.Lemmas.{both-ways, All, nil, all-imp, split, and-left, and-right, each-on}
 use Rattle.defs.specs.PrefixLaws.{Whole, leads-len, whole-long, same-self}
 use Rattle.defs.specs.OrderLaws.{end}
 use Rattle.defs.specs.NodeLaws.{Fits}
@@ -38,7 +38,7 @@ use Rattle.theory.specs.Walk.{by-places}
 use Rattle.view.specs.Spreads.{belowAll, below-at, word-on}
 use Rattle.view.specs.Covered.{wordsOf, dataAt, up-below}
 use Rattle.view.specs.Kept.{isValue, heldBy, keptOf, kept-bit}
-use Rattle.view.specs.Emptiness.{isNil, iff, both-true, nil-each, every-all, all-every, below-of, place-all}
+use Rattle.view.specs.Emptiness.{isNil, both-true, nil-each, every-all, all-every, below-of, place-all}
 
 -- the data bits that a side's node of prefix p keeps
 abbrev pub kept : Side → Node → Prefix → ℕ
@@ -201,7 +201,7 @@ module _ (l r : Side) where
     one-level : same (suc lv) a b p ≡ equalAt l r (suc lv) a b p
     one-level =
         by-every lv p w e l r a b
-        ∙ iff (every at places) (equalAt l r (suc lv) a b p)
+        ∙ both-ways (every at places) (equalAt l r (suc lv) a b p)
         (λ h.
         let k = every-all at places h in
         both-true (eq-eqb _ _ (all-kept k)) (below-of _ 32 (λ c i. sym (at-child c) ∙ place-all k (childPlace c) i)))

@@ -18,11 +18,11 @@ abbrev pub picked : {A : Type 0} → ℕ → List A → List A
 picked t [] = []
 picked t (x ∷ xs) = if eqb (t % 2) 1 then x ∷ picked (t / 2) xs else picked (t / 2) xs
 
-zeros-odd : (k m : ℕ) → trailingZeros (suc k) (m * 2 + 1) ≡ 0
+pub zeros-odd : (k m : ℕ) → trailingZeros (suc k) (m * 2 + 1) ≡ 0
 unfolding trailingZeros
 zeros-odd k m = rw (mul-add-mod-self-right m 2 1, trailingZeros)
 
-zeros-even : (k m : ℕ) → trailingZeros (suc k) (m * 2 + 0) ≡ suc (trailingZeros k m)
+pub zeros-even : (k m : ℕ) → trailingZeros (suc k) (m * 2 + 0) ≡ suc (trailingZeros k m)
 unfolding trailingZeros
 zeros-even k m =
     let v : (m * 2 + 0) / 2 ≡ m = mul-add-div-right {m = 2} (omega arith) m 0 ∙ omega arith in

@@ -1,6 +1,6 @@
 -- A sorted list's entries below a prefix: the prefix itself, then those below its two halves.
 use mathlib.Core.Path.{_≡_, refl, sym, ap, ap₂, _∙_}
-use mathlib.Core.Bool.{Bool, true, false, _||_, or-true}
+use mathlib.Core.Bool.{Bool, true, _||_, or-true}
 use mathlib.Core.Logic.{_⊎_, ⊎-elim}
 use mathlib.Core.List.{List, [], _∷_, _++_}
 use Prim.Native.Nat.{ℕ, suc, _+_, _-_, _*_, _/_, _%_, _^_, _≤_, _<_}
@@ -11,18 +11,12 @@ use Rattle.defs.specs.declared.Prefix.{Prefix}
 use Rattle.defs.specs.Basics.{keep}
 use Rattle.defs.specs.Prefix.{first, leads, before, same, deeper, top}
 use Rattle.defs.specs.Entries.{Entry, under, prefixes}
-use Rattle.defs.specs.Lemmas.{All, split, not-both, is-false, all-imp, all-unmap, keep-on, keep-true, keep-false}
+use Rattle.defs.specs.Lemmas.{both-ways, All, split, not-both, is-false, all-imp, all-unmap, keep-on, keep-true, keep-false}
 use Rattle.defs.specs.PrefixLaws.{Whole, low, high, leads-of, leads-len, leads-first, leads-self, leads-trans, leads-same, leads-low, leads-high, low-high, before-below, before-irrefl, before-asym, same-self, same-says}
 use Rattle.defs.specs.OrderLaws.{Ascends, then-after}
 use Rattle.defs.specs.NodeLaws.{Real}
 use Rattle.defs.specs.EntryLaws.{Sound}
 use Rattle.defs.specs.DeeperLaws.{deeper-first}
-
--- two tests that pass together are equal
-pub both-ways : (a b : Bool) → (a ≡ true → b ≡ true) → (b ≡ true → a ≡ true) → a ≡ b
-both-ways true b f g = sym (f refl)
-both-ways false true f g = g refl
-both-ways false false f g = refl
 
 -- ---- the halves of a prefix
 module _ (q : Prefix) (w : Whole q) (room : q .len < 64) where

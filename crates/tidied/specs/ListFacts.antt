@@ -185,10 +185,6 @@ module _ {A : Type 0} where
   all-front [] b h = (nil, h)
   all-front (x ∷ a) b (more h hs) = let r = all-front a b hs in (more h (r .0), r .1)
 
-  pub length-keep : (t : A → Bool) (xs : List A) → length (keep t xs) ≤ length xs
-  length-keep t [] = omega arith
-  length-keep t (x ∷ xs) = split (t x) (λ e. rw (e, keep) (omega (arith, length-keep t xs))) (λ e. rw (e, keep) (omega (arith, length-keep t xs)))
-
   pub any-imp : (f g : A → Bool) → ((x : A) → f x ≡ true → g x ≡ true) → (a : List A) → any f a ≡ true → any g a ≡ true
   any-imp f g h [] e = e
   any-imp f g h (x ∷ a) e = split (f x) (λ i. ap (_|| any g a) (h x i)) (λ i. ap (g x ||_) (any-imp f g h a (rw i at e)) ∙ or-true (g x))

@@ -10,13 +10,13 @@ use Rattle.defs.specs.Prefix.{leads, same, top}
 use Rattle.defs.specs.Entries.{Entry, allEntries, view, prefixes}
 use Rattle.defs.specs.Lists.{isIn, sameKeys}
 use Rattle.defs.specs.Tidy.{dataPrefixes, childPrefixes, isUnder, entriesIn, childrenOf, nodesFrom, nodesOf, wordOf, poolFrom, tidyPool, tidyValues}
-use Rattle.defs.specs.Lemmas.{All, nil, more, split, not-both, and-left, and-right, all-imp, keep-map, map-map}
+use Rattle.defs.specs.Lemmas.{both-ways, All, nil, more, split, not-both, and-left, and-right, all-imp, keep-map, map-map}
 use Rattle.defs.specs.PrefixLaws.{same-self, same-says}
 use Rattle.defs.specs.OrderLaws.{Ascends, ascends-unique}
 use Rattle.defs.specs.EntryLaws.{Sound, sound-all}
 use Rattle.tidied.specs.ListFacts.{any-map, map-each, each-ext, keep-ext}
 use Rattle.tidied.specs.Words.{word-ext}
-use Rattle.tidied.specs.Halving.{both-ways, onto, under-top}
+use Rattle.tidied.specs.Halving.{onto, under-top}
 use Rattle.tidied.specs.Holds.{through, holds-all}
 
 module _ (es fs : List Entry) (h : prefixes es ≡ prefixes fs) where

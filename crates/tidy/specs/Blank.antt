@@ -7,12 +7,12 @@ use native.Mathlib.Omega.{arith}
 use lib.Dec.{eqb, leb}
 use borrow.Author.Tests.{leb-true, leb-false, eq-eqb, ne-eqb}
 use Rattle.defs.specs.Pool.{nodeCount, dataOf, childOf, firstChild, rank, ones}
-use Rattle.defs.specs.Lemmas.{split, not-both, is-false, and-left, and-right}
+use Rattle.defs.specs.Lemmas.{both-ways, split, not-both, is-false, and-left, and-right}
 use Rattle.bits.specs.WordLaws.{rank-less}
 use Rattle.pool.specs.Sound.{childrenBefore, children-mono, children-all, parent}
 use Rattle.view.specs.Standing.{Sane}
 use Rattle.view.specs.Spreads.{belowAll, below-at}
-use Rattle.view.specs.Emptiness.{emptyAt, iff, both-true, below-of, below-fails}
+use Rattle.view.specs.Emptiness.{emptyAt, both-true, below-of, below-fails}
 
 -- a test holds from a on and before e
 abbrev pub allFrom : (ℕ → Bool) → ℕ → ℕ → Bool
@@ -108,7 +108,7 @@ module _ (w : List ℕ) (s : Sane w) where
         (λ r m. all-at (emptyAt w l) (kidsFrom w a) (kidsFrom w e) t (firstChild w j + r) (omega (arith, kids-mono a j lo)) (omega (arith, kids-mono (suc j) e hi)))))
 
     level : blankRun w a e ≡ true → emptyRun w (suc l) a e ≡ emptyRun w l (kidsFrom w a) (kidsFrom w e)
-    level b = iff _ _ down (back b)
+    level b = both-ways _ _ down (back b)
 
     no-blank : blankRun w a e ≡ false → emptyRun w (suc l) a e ≡ false
     no-blank b = is-false _ (λ t. not-both (all-of (λ j. eqb (dataOf w j) 0) a e (λ j lo hi. and-left _ _ (all-at (emptyAt w (suc l)) a e t j lo hi))) b)
@@ -119,7 +119,7 @@ module _ (w : List ℕ) (s : Sane w) where
         record {
           ordered = omega arith;
           within = omega arith;
-          same = iff _ _ (λ t. all-at (emptyAt w levels) node (node + 1) t node (omega arith) (omega arith))
+          same = both-ways _ _ (λ t. all-at (emptyAt w levels) node (node + 1) t node (omega arith) (omega arith))
               (λ t. all-of (emptyAt w levels) node (node + 1) (λ j lo hi. let z : j ≡ node = omega arith in ap (emptyAt w levels) z ∙ t));
         }
 

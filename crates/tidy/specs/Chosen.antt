@@ -14,10 +14,10 @@ use lib.Seq.{take-at, drop-at, take-all, drop-drop, drop-cons, set-at}
 use borrow.Rule.Slice.PartMut.{putMid, midOf, postOf}
 use Rattle.defs.specs.Basics.{if_then_else_, keep, each, upTo}
 use Rattle.defs.specs.Pool.{bit, rank, ones}
-use Rattle.defs.specs.Lemmas.{split, keep-append, each-append}
+use Rattle.defs.specs.Lemmas.{length-keep, split, keep-append, each-append}
 use Rattle.bits.specs.WordLaws.{rank-suc, rank-mono, rank-all, ones-le}
 use Rattle.tidied.specs.InOrder.{copyFrom}
-use Rattle.tidied.specs.ListFacts.{run, length-run, run-append, length-upTo, length-keep}
+use Rattle.tidied.specs.ListFacts.{run, length-run, run-append, length-upTo}
 use Rattle.tidied.specs.Spots.{rank-run}
 use borrow.Author.Tests.{eqb-true, eqb-false}
 

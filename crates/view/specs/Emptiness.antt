@@ -15,7 +15,7 @@ use Rattle.defs.specs.Basics.{if_then_else_, each, every}
 use Rattle.defs.specs.Prefix.{deeper}
 use Rattle.defs.specs.Pool.{nodeCount, dataOf, childOf, firstChild, bit, rank, ones, dataBit}
 use Rattle.defs.specs.Entries.{Entry, Place, dataPlace, childPlace, places, heldAt, entriesAt}
-use Rattle.defs.specs.Lemmas.{All, nil, more, all-imp, split, not-both, and-left, and-right}
+use Rattle.defs.specs.Lemmas.{both-ways, All, nil, more, all-imp, split, not-both, and-left, and-right}
 use Rattle.bits.specs.Places.{placeLen, placeValue}
 use Rattle.bits.specs.PlaceLaws.{made, data-place, place-len-below}
 use Rattle.bits.specs.WordLaws.{bit-none, select, rank-less}
@@ -39,13 +39,6 @@ abbrev pub emptyAt : List ℕ → ℕ → ℕ → Bool
 emptyAt w zero node = true
 emptyAt w (suc levels) node =
     eqb (dataOf w node) 0 && belowAll (λ j. emptyAt w levels (firstChild w node + j)) (ones (childOf w node))
-
--- ---- tests
-
-pub iff : (a b : Bool) → (a ≡ true → b ≡ true) → (b ≡ true → a ≡ true) → a ≡ b
-iff true b f g = sym (f refl)
-iff false true f g = g refl
-iff false false f g = refl
 
 pub both-true : {a b : Bool} → a ≡ true → b ≡ true → (a && b) ≡ true
 both-true e f = rw (e, f)
@@ -166,7 +159,7 @@ module _ (w : List ℕ) (s : Sane w) where
     empty-step : isNil (entriesAt w (suc levels) i p) ≡ emptyAt w (suc levels) i
     empty-step =
         nil-each held places
-        ∙ iff (every (λ x. isNil (held x)) places) (emptyAt w (suc levels) i)
+        ∙ both-ways (every (λ x. isNil (held x)) places) (emptyAt w (suc levels) i)
         (λ e.
         let a = every-all (λ x. isNil (held x)) places e in
         both-true (eq-eqb (dataOf w i) 0 (no-data a)) (below-of (λ j. emptyAt w levels (firstChild w i + j)) (ones (childOf w i)) (no-kid a)))

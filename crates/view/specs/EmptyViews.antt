@@ -14,7 +14,7 @@ use Rattle.defs.specs.Pool.{nodeCount, childOf, bit, dataBit}
 use Rattle.defs.specs.PrefixLaws.{Whole, leads-len, whole-long, cut-le}
 use Rattle.defs.specs.Entries.{Entry, Place, dataPlace, childPlace, places, entriesAt, under, view}
 use Rattle.defs.specs.EntryLaws.{sound}
-use Rattle.defs.specs.Lemmas.{All, all-imp, split, and-left, and-right}
+use Rattle.defs.specs.Lemmas.{both-ways, All, all-imp, split, and-left, and-right}
 use Rattle.defs.specs.DeeperLaws.{whole-deeper}
 use Rattle.bits.specs.Places.{placePrefix}
 use Rattle.bits.specs.PlaceLaws.{child-place, place-prefix}
@@ -31,7 +31,7 @@ use Rattle.view.specs.Standing.{Sane, NodeIn, in-at, child-in, child-ins
 use Rattle.view.specs.Spreads.{belowAll, below-at}
 use Rattle.view.specs.Covered.{words-zero}
 use Rattle.view.specs.Kept.{isValue, keptOf, kept-bit}
-use Rattle.view.specs.Emptiness.{isNil, emptyAt, empty-says, iff, both-true, nil-each, every-all, all-every, below-of, below-fails, place-all}
+use Rattle.view.specs.Emptiness.{isNil, emptyAt, empty-says, both-true, nil-each, every-all, all-every, below-of, below-fails, place-all}
 use Rattle.view.specs.Descent.{cutTo, whole-cut, nodeDown, node-down-in, foundAt, foundOf, foundEntries, view-found}
 
 -- a root that ends in its node of prefix p, with so many levels below the node
@@ -104,7 +104,7 @@ module _ (w : List ℕ) (s : Sane w) (root : Prefix) (i : ℕ) (h : i < nodeCoun
   pub under-says : isNil (sideEntries w root (suc levels) (node.At i) p) ≡ emptyUnder w root levels i p
   under-says =
       ap isNil (side-places w root levels (node.At i) p) ∙ nil-each held places
-      ∙ iff (every (λ x. isNil (held x)) places) (emptyUnder w root levels i p)
+      ∙ both-ways (every (λ x. isNil (held x)) places) (emptyUnder w root levels i p)
       (λ e.
       let a = every-all (λ x. isNil (held x)) places e in
       both-true (eq-eqb _ 0 (no-kept a)) (below-of _ 32 (λ c l. sym (kid-nil c l) ∙ place-all a (childPlace c) l)))

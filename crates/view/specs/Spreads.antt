@@ -5,7 +5,7 @@ use mathlib.Core.Logic.{⊎-elim}
 use mathlib.Core.List.{List, [], _∷_}
 use Prim.Native.Nat.{ℕ, zero, suc, _+_, _-_, _*_, _/_, _%_, _^_, _≤_, _<_}
 use native.Mathlib.Omega.{arith}
-use native.Mathlib.Nat.{not-suc-le-zero, le-of-suc-le-suc, eq-or-lt-of-le, mod-lt, div-add-mod', mul-add-mod-self-right, mul-add-div-right}
+use native.Mathlib.Nat.{not-suc-le-zero, le-of-suc-le-suc, eq-or-lt-of-le, mod-lt, div-add-mod'}
 use lib.Count.{trailingZeros}
 use lib.Dec.{eqb, ltb}
 use lib.ListN.{getD}
@@ -22,6 +22,7 @@ use Rattle.theory.specs.Steps.{placeBit}
 use Rattle.theory.specs.Todo.{word-lt, lowest}
 use Rattle.theory.specs.Unwanted.{InNode, places-in-node}
 use Rattle.theory.specs.Walk.{places-length}
+use Rattle.theory.specs.Todo.{zeros-odd, zeros-even}
 
 -- a node's bit of a place, its 31 data bits first
 abbrev pub codeOf : Place → ℕ
@@ -70,16 +71,6 @@ pub eqb-suc : (a b : ℕ) → eqb (suc a) (suc b) ≡ eqb a b
 eqb-suc a b =
     split (eqb a b) (λ e. eq-eqb (suc a) (suc b) (ap suc (eqb-true a b e)) ∙ sym e)
     (λ e. ne-eqb (suc a) (suc b) (λ i. eqb-false a b e (omega arith)) ∙ sym e)
-
-zeros-odd : (k m : ℕ) → trailingZeros (suc k) (m * 2 + 1) ≡ 0
-unfolding trailingZeros
-zeros-odd k m = rw (mul-add-mod-self-right m 2 1, trailingZeros)
-
-zeros-even : (k m : ℕ) → trailingZeros (suc k) (m * 2 + 0) ≡ suc (trailingZeros k m)
-unfolding trailingZeros
-zeros-even k m =
-    let v : (m * 2 + 0) / 2 ≡ m = mul-add-div-right {m = 2} (omega arith) m 0 ∙ omega arith in
-    rw (mul-add-mod-self-right m 2 0, trailingZeros, v)
 
 -- every bit but the lowest is still there without the lowest
 abbrev pub Low : ℕ → ℕ → ℕ → Type 0
