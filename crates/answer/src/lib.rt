@@ -1,4 +1,6 @@
 // From the bytes of a request to the bytes of its answer: the text program without its input and output.
+#![tactic(auto)]
+
 ghost use Rattle.std.specs.Prelude.{◌≡◌, ◌≤◌, length, replicate};
 ghost use Rattle.defs.specs.Outcome.{list_outcome};
 ghost use Rattle.text.specs.Output.{Wrote};

@@ -1,4 +1,6 @@
 // Leaves on words and prefixes: masks, first bits, the common length, bits and ranks, and the 63 places of a node.
+#![tactic(auto)]
+
 ghost use Rattle.std.specs.Prelude.{◌≡◌, min};
 ghost use Rattle.defs.specs.Prefix.{leads, before};
 ghost use Rattle.defs.specs.Pool.{bit, rank, ones};

@@ -1,4 +1,6 @@
 // Runs the calls on stored cases and on pools too large to store, and says how many came out wrong.
+#![tactic(auto)]
+
 mod large;
 mod replay;
 mod scan;
@@ -7,21 +9,21 @@ use defs::Prefix;
 use libc::STDOUT_FILENO;
 
 // A number that was read, and where the text goes on.
-#[derive(Drop)]
+#[derive(Clone, Copy)]
 pub struct Read {
     pub value: u64,
     pub next: usize,
 }
 
 // Whether all came out as stored so far, and where the text goes on.
-#[derive(Drop)]
+#[derive(Clone, Copy)]
 pub struct Compared {
     pub same: bool,
     pub next: usize,
 }
 
 // A view of a case: how many words it has, its root, and where the text goes on.
-#[derive(Drop)]
+#[derive(Clone, Copy)]
 pub struct Side {
     pub words: usize,
     pub root: Prefix,
@@ -29,7 +31,7 @@ pub struct Side {
 }
 
 // How many cases there were, how many failed, the first of these, counted from 1, and how far the text is used.
-#[derive(Drop)]
+#[derive(Clone, Copy)]
 pub struct Totals {
     pub cases: u64,
     pub failed: u64,

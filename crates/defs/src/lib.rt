@@ -1,4 +1,6 @@
 // The types that every call speaks of, and the numbers that are fixed once. What they mean is said in specs/.
+#![tactic(auto)]
+
 ghost use Rattle.std.specs.Prelude.{◌≡◌};
 ghost use Rattle.defs.specs.Check.{pool_limit};
 ghost use Rattle.defs.specs.Lists.{missing, no_cover, record_words};
@@ -6,7 +8,7 @@ ghost use Rattle.defs.specs.Outcome.{answer};
 
 // A 64-bit key, first bit highest, and a length.
 #[repr(C)]
-#[derive(Drop)]
+#[derive(Clone, Copy)]
 pub struct Prefix {
     pub key: u64,
     pub len: u32,
@@ -14,7 +16,7 @@ pub struct Prefix {
 
 // The refusal number or 0, the number beside it, and a second one, which only the check uses for its fault.
 #[repr(C)]
-#[derive(Drop)]
+#[derive(Clone, Copy)]
 pub struct Answer {
     pub number: u32,
     pub beside: u64,
@@ -22,7 +24,7 @@ pub struct Answer {
 }
 
 // The five lists.
-#[derive(Drop)]
+#[derive(Clone, Copy)]
 pub enum Operation {
     Union,
     Intersection,

@@ -1,4 +1,6 @@
 // The calls for C and Rust: each takes roots as key and length, and answers what the crate's own call answers.
+#![tactic(auto)]
+
 ghost use Rattle.std.specs.Prelude.{◌≡◌};
 ghost use Rattle.defs.specs.declared.Operation.TheVariants.{Union, Intersection, Difference, CoveringDifference, CoveringUnion};
 ghost use Rattle.defs.specs.Outcome.{check_outcome, list_outcome, equal_outcome, tidy_outcome};

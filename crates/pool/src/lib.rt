@@ -1,4 +1,6 @@
 // The words of a pool: a node's fields, and the check for faults.
+#![tactic(auto)]
+
 ghost use Rattle.std.specs.Prelude.{◌≡◌, ◌&&◌, ◌||◌, [], ◌∷◌, suc, ◌+◌, ◌-◌, ◌≤◌, ◌<◌, ◌^◌, min, leb, ltb, eqb};
 ghost use Rattle.defs.specs.Basics.{if◌then◌else◌};
 ghost use Rattle.defs.specs.Pool.{node_count, data_of, child_of, first_child, first_value};
@@ -55,7 +57,7 @@ pub fn first_value(words: &[u32], i: usize) -> u32
 }
 
 // How far the check has come. Nodes stand level by level, so the depths that are due are `here` times `depth`, then `next` times 5 more.
-#[derive(Drop)]
+#[derive(Clone, Copy)]
 struct Count {
     depth: u32,
     here: u32,
@@ -65,7 +67,7 @@ struct Count {
 }
 
 // What the check finds at a node: a fault, or how far it has come after it.
-#[derive(Drop)]
+#[derive(Clone, Copy)]
 enum Step {
     Bad(u32),
     On(Count),

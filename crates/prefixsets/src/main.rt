@@ -1,10 +1,12 @@
 // The text program: a request on standard input, its answer on standard output.
+#![tactic(auto)]
+
 ghost use Rattle.std.specs.Prelude.{◌≡◌, length};
 
 use libc::{STDIN_FILENO, STDOUT_FILENO};
 
 // What one more read gives: the number of bytes that there are now, the end of the input, or a failure.
-#[derive(Drop)]
+#[derive(Clone, Copy)]
 pub enum More {
     Now(usize),
     End,
@@ -12,7 +14,7 @@ pub enum More {
 }
 
 // The whole input as far as the buffer goes, or a failure.
-#[derive(Drop)]
+#[derive(Clone, Copy)]
 pub enum Input {
     Bytes(usize),
     Failed,

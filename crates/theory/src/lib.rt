@@ -1,29 +1,31 @@
 // The types of a walk over two tries. There is no code here: the laws in specs/ say what such a walk gives, and code cites them.
+#![tactic(auto)]
+
 use defs::Prefix;
 
 // The node of one side at a level of the walk, or none.
-#[derive(Drop)]
+#[derive(Clone, Copy)]
 pub enum Node {
     Absent,
     At(u32),
 }
 
 // The value index of one side at a data place, or none.
-#[derive(Drop)]
+#[derive(Clone, Copy)]
 pub enum Value {
     Missing,
     Is(u32),
 }
 
 // The longest entry of the other side that leads a record, or none.
-#[derive(Drop)]
+#[derive(Clone, Copy)]
 pub enum Cover {
     Nothing,
     Of { len: u32, value: u32 },
 }
 
 // An item of a list: of one side alone, with its cover, or of both.
-#[derive(Drop)]
+#[derive(Clone, Copy)]
 pub enum Item {
     Left {
         prefix: Prefix,
@@ -43,21 +45,21 @@ pub enum Item {
 }
 
 // What a data place gives to a list.
-#[derive(Drop)]
+#[derive(Clone, Copy)]
 pub enum Emit {
     Nothing,
     One(Item),
 }
 
 // The longest entry of each side above a node, or none.
-#[derive(Drop)]
+#[derive(Clone, Copy)]
 pub struct Covers {
     pub left: Cover,
     pub right: Cover,
 }
 
 // One level of the walk: two nodes of one prefix, the entries above them, and the places still to visit, lowest bit first.
-#[derive(Drop)]
+#[derive(Clone, Copy)]
 pub struct Level {
     pub prefix: Prefix,
     pub left: Node,
@@ -67,7 +69,7 @@ pub struct Level {
 }
 
 // What the next place of a level comes to.
-#[derive(Drop)]
+#[derive(Clone, Copy)]
 pub enum Step {
     Up,
     Skip(Level),

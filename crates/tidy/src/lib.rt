@@ -1,4 +1,6 @@
 // Tidying: the source's nodes in order, each with what of it the view holds, and the nodes that hold nothing left out.
+#![tactic(auto)]
+
 ghost use Rattle.std.specs.Prelude.{◌≡◌, not, ◌||◌, ◌+◌, ◌-◌, ◌*◌, ◌^◌, ◌≤◌, ◌<◌, eqb, ltb, length};
 ghost use Rattle.defs.specs.Pool.{node_count, ones};
 ghost use Rattle.defs.specs.Prefix.{deeper};
@@ -119,7 +121,7 @@ fn full_kids(words: &[u32], i: u32, levels: u32) -> u32
 }
 
 // The nodes of one depth that lie on one path with the root: they are those from `from` on and before `to`. Above the root there is one at most.
-#[derive(Drop)]
+#[derive(Clone, Copy)]
 struct Run {
     depth: u32,
     from: u32,
@@ -127,7 +129,7 @@ struct Run {
 }
 
 // Places of a node's children: from `low` on and before `high`.
-#[derive(Drop)]
+#[derive(Clone, Copy)]
 struct Span {
     low: u32,
     high: u32,
@@ -321,7 +323,7 @@ fn put_values(values: &mut [u32], held: u32, first: u32, kept: u32)
 }
 
 // What a tidy pool needs: its nodes and its entries.
-#[derive(Drop)]
+#[derive(Clone, Copy)]
 struct Size {
     nodes: u32,
     entries: u32,

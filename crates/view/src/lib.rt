@@ -1,4 +1,6 @@
 // One side of a walk at a node: its bitmaps, its values and children, the nearest entry above a place, and the way down to a root.
+#![tactic(auto)]
+
 ghost use Rattle.std.specs.Prelude.{◌≡◌, true, false, ◌+◌, ◌*◌, ◌/◌, ◌%◌, ◌^◌, ◌≤◌, ◌<◌, length};
 ghost use Rattle.defs.specs.Basics.{up_to};
 ghost use Rattle.defs.specs.Pool.{node_count};
@@ -22,7 +24,7 @@ use defs::Prefix;
 use theory::{Cover, Node, Value};
 
 // The data bitmap and the child bitmap of a node.
-#[derive(Drop)]
+#[derive(Clone, Copy)]
 pub struct Bitmaps {
     pub data: u32,
     pub child: u32,
@@ -210,7 +212,7 @@ pub fn at_depth(words: &[u32], root: Prefix, depth: u32) -> Node
 }
 
 // The place of a root: its node, that node's prefix, and the root without stray bits.
-#[derive(Drop)]
+#[derive(Clone, Copy)]
 pub enum Found {
     Nothing,
     At {
@@ -252,7 +254,7 @@ fn word_at(t: &[u8], at: usize) -> u32
 }
 
 // The places of a node that entries cover.
-#[derive(Drop)]
+#[derive(Clone, Copy)]
 pub struct Coverage {
     pub data: u32,
     pub child: u32,

@@ -1,4 +1,6 @@
 // A view as one value: the pool's words, the width, and the root's key and length. Whoever holds the fields can make one, so each call over views takes them apart and makes the plain call, which checks everything again.
+#![tactic(auto)]
+
 ghost use Rattle.std.specs.Prelude.{◌≡◌};
 ghost use Rattle.defs.specs.declared.Operation.TheVariants.{Union, Intersection, Difference, CoveringDifference, CoveringUnion};
 ghost use Rattle.defs.specs.Outcome.{list_outcome, equal_outcome, tidy_outcome};
@@ -8,7 +10,7 @@ ghost use Rattle.views.specs.Views.{side_of, open_outcome, opened, view_of};
 use defs::{Answer, Prefix};
 
 // A view: pool words, width, and the root's key and length.
-#[derive(Drop)]
+#[derive(Clone, Copy)]
 pub struct View<'a> {
     pub words: &'a [u32],
     pub width: u32,
@@ -17,7 +19,7 @@ pub struct View<'a> {
 }
 
 // What opening gives: a refusal number or 0 and the number beside it, and the view's fields.
-#[derive(Drop)]
+#[derive(Clone, Copy)]
 pub struct Opened<'a> {
     pub number: u32,
     pub beside: u64,

@@ -1,4 +1,6 @@
 // One walk for the five lists: two tries side by side, a stack of levels, one step at a time.
+#![tactic(auto)]
+
 ghost use Rattle.std.specs.Prelude.{◌≡◌, ◌∷◌, ◌++◌, ◌+◌, ◌-◌, ◌*◌, ◌^◌, ◌≤◌, ◌<◌, length, drop};
 ghost use Rattle.defs.specs.Entries.{data_place, child_place};
 ghost use Rattle.defs.specs.Lists.{words_of, record_words};
@@ -16,7 +18,7 @@ use theory::{Cover, Covers, Emit, Item, Level, Node, Step, Value};
 use view::Bitmaps;
 
 // The two roots of a call.
-#[derive(Drop)]
+#[derive(Clone, Copy)]
 pub struct Roots {
     pub left: Prefix,
     pub right: Prefix,
