@@ -1,0 +1,16 @@
+use mathlib.Core.Path.{◌∙◌, sym, ap}
+use borrow.Author.Rules.{rules}
+use borrow.Author.Tests.{not-true, not-false}
+use native.Mathlib.Omega.{arith}
+use Rattle.theory.specs.Steps.{item_record}
+use Rattle.rules.specs.Records as loops
+use Rattle.rules.proofs.record.put_if.Goals as goal
+
+pub returns-then-not-writes : goal.returns-then-not-writes
+returns-then-not-writes c = loops.not_moved c.args.writes (item_record c.args.i) _ (not-true _ c.if-not-writes.true)
+
+pub put-requires : goal.put-requires
+put-requires c = let e = c.requires in let w = not-false c.args.writes c.if-not-writes.false in rw w at e
+
+pub returns : goal.returns
+returns c = loops.moved_on c.args.writes (item_record c.args.i) c.args.out.now _ _ (not-false _ c.if-not-writes.false) c.record_words.ensures c.put.ensures

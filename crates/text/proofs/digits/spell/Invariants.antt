@@ -1,0 +1,10 @@
+use borrow.Author.Rules.{rules}
+use native.Mathlib.Omega.{arith}
+use Rattle.text.proofs.SpellLaws.{Spelling, spell_start, spell_on, spell_all, digit_small}
+use Rattle.text.proofs.digits.spell.Given as goal
+
+abbrev pub invariant-loop-i : goal.invariant-loop-i
+invariant-loop-i l = Spelling l.n l.base l.k l.initial.out l.out l.i l.left
+
+abbrev pub decreases-loop-i : goal.decreases-loop-i
+decreases-loop-i l = l.i

@@ -1,0 +1,18 @@
+use borrow.Author.Rules.{rules}
+use mathlib.Core.Path.{refl}
+use Prim.Native.Nat.{◌-◌}
+use lib.ListN.{length}
+use Rattle.text.proofs.LineLaws.{Seeking, seek_on, seek_found, seek_over}
+use Rattle.text.proofs.lines.line_end.Goals as goal
+
+pub loop-i-init : goal.loop-i-init
+loop-i-init c = record { within = c.requires; same_end = refl }
+
+pub returns-then-input-i-eq10 : goal.returns-then-input-i-eq10
+returns-then-input-i-eq10 c = seek_found _ _ _ c.loop-i.invariant c.loop-i-test.true c.if-input-i-eq10.true
+
+pub loop-i-preserved : goal.loop-i-preserved
+loop-i-preserved c = seek_on _ _ _ c.loop-i.invariant c.loop-i-test.true c.if-input-i-eq10.false
+
+pub returns : goal.returns
+returns c = seek_over _ _ _ c.loop-i.invariant c.loop-i-test.false

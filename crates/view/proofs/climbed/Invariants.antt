@@ -1,0 +1,13 @@
+-- `view::climbed` meets its contract. At each turn nothing between the place and `up` has a value; the measure is `up`.
+use mathlib.Core.Path.{sym, ◌∙◌}
+use native.Mathlib.Omega.{arith}
+use borrow.Author.Rules.{rules}
+use Rattle.theory.specs.declared.Node.TheVariants as node
+use Rattle.view.specs.Climb.{Climbing, climb_start, climb_unset, climb_outside, climb_found, climb_end, climb_room, half_some}
+use Rattle.view.proofs.climbed.Given as goal
+
+abbrev pub invariant-loop-up : goal.invariant-loop-up
+invariant-loop-up l = Climbing (record { pool = l.words; l.root = l.root }) (node.At l.i) l.p l.above l.h l.up
+
+abbrev pub decreases-loop-up : goal.decreases-loop-up
+decreases-loop-up l = l.up

@@ -1,0 +1,11 @@
+-- `view::kept_places` meets its contract. The word of the first b data bits; the measure is the bits left.
+use native.Mathlib.Omega.{arith}
+use Prim.Native.Nat.{◌-◌}
+use Rattle.view.specs.Kept.{Keeping, keeping_start, keeping_small, keeping_on, keeping_end}
+use Rattle.view.proofs.kept_places.Given as goal
+
+abbrev pub invariant-loop-b : goal.invariant-loop-b
+invariant-loop-b l = Keeping l.held l.root l.p l.kept l.b
+
+abbrev pub decreases-loop-b : goal.decreases-loop-b
+decreases-loop-b l = 31 - l.b

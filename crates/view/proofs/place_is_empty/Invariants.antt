@@ -1,0 +1,13 @@
+-- `view::place_is_empty` meets its contract. At each turn the first c children hold nothing; the measure is the children left.
+use native.Mathlib.Omega.{arith}
+use mathlib.Core.Path.{sym, ◌∙◌}
+use Prim.Native.Nat.{◌-◌}
+use borrow.Author.Tests.{not-true, not-false}
+use Rattle.view.specs.EmptyViews.{Searching, searching_start, searching_on, searching_fails, searching_ends, under_kept}
+use Rattle.view.proofs.place_is_empty.Given as goal
+
+abbrev pub invariant-loop-c : goal.invariant-loop-c
+invariant-loop-c l = Searching l.words l.root l.levels l.node l.p l.c
+
+abbrev pub decreases-loop-c : goal.decreases-loop-c
+decreases-loop-c l = 32 - l.c

@@ -1,0 +1,7 @@
+use Rattle.walk.specs.Ready.{job_of}
+use Rattle.walk.specs.Maps.{entered_is}
+use borrow.Author.Rules.{rules}
+use Rattle.walk.proofs.entered.Goals as goal
+
+pub returns : goal.returns
+returns c = entered_is (job_of c.args.op c.args.l.now c.args.r.now c.args.roots) _ _ _ _ c.requires.1 _ c.maps.ensures _ c.spread-todo.ensures

@@ -1,0 +1,15 @@
+use Prim.Native.Nat.{◌+◌}
+use mathlib.Core.Path.{refl}
+use borrow.Author.Rules.{rules}
+use native.Mathlib.Omega.{arith}
+use lib.ListN.{get_or, length, length-take, length-drop}
+use Rattle.theory.specs.Steps.{level_rest}
+use Rattle.walk.specs.Loops as loops
+use Rattle.walk.specs.Ready.{job_of}
+use Rattle.walk.proofs.run.Given as goal
+
+abbrev pub invariant-loop-n : goal.invariant-loop-n
+invariant-loop-n l = loops.Running (loops.Placed l.writes l.initial.out l.out l.at l.count) (job_of l.op l.l l.r l.roots) (level_rest (job_of l.op l.l l.r l.roots) (get_or l.initial.stack 0 loops.no_level)) l.stack l.n
+
+abbrev pub decreases-loop-n : goal.decreases-loop-n
+decreases-loop-n l = loops.steps_left l.n l.stack
