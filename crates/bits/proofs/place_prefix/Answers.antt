@@ -12,4 +12,4 @@ pub returns-then-p-n : goal.returns-then-p-n
 returns-then-p-n c = prefix_long _ _ (omega arith) (omega (arith, c.place_len-n.ensures))
 
 pub returns : goal.returns
-returns c = prefix_is _ _ (omega arith) _ _ _ c.place_len-n.ensures c.place_value.ensures (omega arith) (omega arith) c.wrapping_add_u64.ensures
+returns c = prefix_is _ _ (omega arith) _ _ _ c.place_len-n.ensures c.place_value.ensures (omega arith) (omega arith) c.wrapping_add_u64.ensures.value
