@@ -6,4 +6,4 @@ use borrow.Author.Rules.{rules}
 use Rattle.sets.proofs.call.written.Goals as goal
 
 pub returns : goal.returns
-returns c = listing.room_done (level_rest (job_of c.args.op c.args.l.now c.args.r.now c.args.roots) c.args.start) c.args.out.now c.requires.1 _ c.run-n.ensures.0 _ c.new.ensures _ c.run-n.ensures.1
+returns c = listing.room_done (level_rest (job_of c.args.op c.args.l.now c.args.r.now c.args.roots) c.args.start) c.args.out.now c.requires.start_in_bounds _ c.run-n.ensures.0 _ c.new.ensures _ c.run-n.ensures.1

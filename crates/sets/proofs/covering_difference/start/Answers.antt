@@ -8,16 +8,22 @@ use borrow.Author.Rules.{rules}
 use Rattle.sets.proofs.covering_difference.start.Goals as goal
 
 pub entered-requires : goal.entered-requires
-entered-requires c = (beg.start_entering c.args.l.now c.args.r.now c.args.roots (omega (arith, c.before.before.before.before.before.before.before.before.before.well-formed.1.1.0)) (omega (arith, c.before.before.before.before.before.before.before.before.before.well-formed.1.1.0)) c.requires.2 c.requires.3 c.requires.0 c.requires.1 _ c.shortened-prefix.ensures _ c.align.ensures node.Absent tt _ c.at_depth-left.ensures, carries_none CoveringDifference _ c.no_covers-none.ensures)
+entered-requires c = record {
+  entering = beg.start_entering c.args.l.now c.args.r.now c.args.roots (omega (arith, c.well_formed.1.1.0)) (omega (arith, c.well_formed.1.1.0)) c.requires.2 c.requires.3 c.requires.0 c.requires.1 _ c.shortened-prefix.ensures _ c.align.ensures node.Absent tt _ c.at_depth-left.ensures;
+  above_value = carries_none CoveringDifference _ c.no_covers-none.ensures;
+}
 
 pub entered-requires-in-At : goal.entered-requires-in-At
-entered-requires-in-At c = (beg.start_entering c.args.l.now c.args.r.now c.args.roots (omega (arith, c.before.before.before.before.before.before.before.before.before.before.well-formed.1.1.0)) (omega (arith, c.before.before.before.before.before.before.before.before.before.before.well-formed.1.1.0)) c.requires.2 c.requires.3 c.requires.0 c.requires.1 _ c.shortened-prefix.ensures _ c.align.ensures (node.At _) (beg.reached c.args.l.now c.args.r.now c.args.roots (omega (arith, c.before.before.before.before.before.before.before.before.before.before.well-formed.1.1.0)) (omega (arith, c.before.before.before.before.before.before.before.before.before.before.well-formed.1.1.0)) c.requires.2 c.requires.3 c.requires.0 c.requires.1 _ c.shortened-prefix.ensures _ c.align.ensures _ c.in-At.is) _ c.at_depth-left.ensures, carries_none CoveringDifference _ c.no_covers-none.ensures)
+entered-requires-in-At c = record {
+  entering = beg.start_entering c.args.l.now c.args.r.now c.args.roots (omega (arith, c.well_formed.1.1.0)) (omega (arith, c.well_formed.1.1.0)) c.requires.2 c.requires.3 c.requires.0 c.requires.1 _ c.shortened-prefix.ensures _ c.align.ensures (node.At _) (beg.reached c.args.l.now c.args.r.now c.args.roots (omega (arith, c.well_formed.1.1.0)) (omega (arith, c.well_formed.1.1.0)) c.requires.2 c.requires.3 c.requires.0 c.requires.1 _ c.shortened-prefix.ensures _ c.align.ensures _ c.in-At.is) _ c.at_depth-left.ensures;
+  above_value = carries_none CoveringDifference _ c.no_covers-none.ensures;
+}
 
 pub returns-in-Covered : goal.returns-in-Covered
-returns-in-Covered c = (beg.covered_ready c.args.l.now c.args.r.now c.args.roots (omega (arith, c.before.before.before.before.before.before.before.before.before.before.well-formed.1.1.0)) (omega (arith, c.before.before.before.before.before.before.before.before.before.before.well-formed.1.1.0)) c.requires.2 c.requires.3 c.requires.0 c.requires.1 _ c.shortened-prefix.ensures _ c.align.ensures c.in-Covered.is _ c.nothing.ensures, beg.covered_list c.args.l.now c.args.r.now c.args.roots (omega (arith, c.before.before.before.before.before.before.before.before.before.before.well-formed.1.1.0)) (omega (arith, c.before.before.before.before.before.before.before.before.before.before.well-formed.1.1.0)) c.requires.2 c.requires.3 c.requires.0 c.requires.1 _ c.shortened-prefix.ensures _ c.align.ensures c.in-Covered.is _ c.nothing.ensures)
+returns-in-Covered c = (beg.covered_ready c.args.l.now c.args.r.now c.args.roots (omega (arith, c.well_formed.1.1.0)) (omega (arith, c.well_formed.1.1.0)) c.requires.2 c.requires.3 c.requires.0 c.requires.1 _ c.shortened-prefix.ensures _ c.align.ensures c.in-Covered.is _ c.nothing.ensures, beg.covered_list c.args.l.now c.args.r.now c.args.roots (omega (arith, c.well_formed.1.1.0)) (omega (arith, c.well_formed.1.1.0)) c.requires.2 c.requires.3 c.requires.0 c.requires.1 _ c.shortened-prefix.ensures _ c.align.ensures c.in-Covered.is _ c.nothing.ensures)
 
 pub returns-in-Missing : goal.returns-in-Missing
-returns-in-Missing c = (beg.start_ready c.args.l.now c.args.r.now c.args.roots (omega (arith, c.before.before.before.before.before.before.before.before.before.before.well-formed.1.1.0)) (omega (arith, c.before.before.before.before.before.before.before.before.before.before.well-formed.1.1.0)) c.requires.2 c.requires.3 c.requires.0 c.requires.1 _ c.shortened-prefix.ensures _ c.align.ensures node.Absent tt _ c.at_depth-left.ensures _ c.no_covers-none.ensures _ c.entered.ensures, beg.missing_list c.args.l.now c.args.r.now c.args.roots (omega (arith, c.before.before.before.before.before.before.before.before.before.before.well-formed.1.1.0)) (omega (arith, c.before.before.before.before.before.before.before.before.before.before.well-formed.1.1.0)) c.requires.2 c.requires.3 c.requires.0 c.requires.1 _ c.shortened-prefix.ensures _ c.align.ensures node.Absent tt _ c.at_depth-left.ensures _ c.no_covers-none.ensures _ c.entered.ensures c.in-Missing.is refl)
+returns-in-Missing c = (beg.start_ready c.args.l.now c.args.r.now c.args.roots (omega (arith, c.well_formed.1.1.0)) (omega (arith, c.well_formed.1.1.0)) c.requires.2 c.requires.3 c.requires.0 c.requires.1 _ c.shortened-prefix.ensures _ c.align.ensures node.Absent tt _ c.at_depth-left.ensures _ c.no_covers-none.ensures _ c.entered.ensures, beg.missing_list c.args.l.now c.args.r.now c.args.roots (omega (arith, c.well_formed.1.1.0)) (omega (arith, c.well_formed.1.1.0)) c.requires.2 c.requires.3 c.requires.0 c.requires.1 _ c.shortened-prefix.ensures _ c.align.ensures node.Absent tt _ c.at_depth-left.ensures _ c.no_covers-none.ensures _ c.entered.ensures c.in-Missing.is refl)
 
 pub returns-in-At : goal.returns-in-At
-returns-in-At c = (beg.start_ready c.args.l.now c.args.r.now c.args.roots (omega (arith, c.before.before.before.before.before.before.before.before.before.before.before.well-formed.1.1.0)) (omega (arith, c.before.before.before.before.before.before.before.before.before.before.before.well-formed.1.1.0)) c.requires.2 c.requires.3 c.requires.0 c.requires.1 _ c.shortened-prefix.ensures _ c.align.ensures (node.At _) (beg.reached c.args.l.now c.args.r.now c.args.roots (omega (arith, c.before.before.before.before.before.before.before.before.before.before.before.well-formed.1.1.0)) (omega (arith, c.before.before.before.before.before.before.before.before.before.before.before.well-formed.1.1.0)) c.requires.2 c.requires.3 c.requires.0 c.requires.1 _ c.shortened-prefix.ensures _ c.align.ensures _ c.in-At.is) _ c.at_depth-left.ensures _ c.no_covers-none.ensures _ c.entered-in-At.ensures, beg.there_list c.args.l.now c.args.r.now c.args.roots (omega (arith, c.before.before.before.before.before.before.before.before.before.before.before.well-formed.1.1.0)) (omega (arith, c.before.before.before.before.before.before.before.before.before.before.before.well-formed.1.1.0)) c.requires.2 c.requires.3 c.requires.0 c.requires.1 _ c.shortened-prefix.ensures _ c.align.ensures (node.At _) (beg.reached c.args.l.now c.args.r.now c.args.roots (omega (arith, c.before.before.before.before.before.before.before.before.before.before.before.well-formed.1.1.0)) (omega (arith, c.before.before.before.before.before.before.before.before.before.before.before.well-formed.1.1.0)) c.requires.2 c.requires.3 c.requires.0 c.requires.1 _ c.shortened-prefix.ensures _ c.align.ensures _ c.in-At.is) _ c.at_depth-left.ensures _ c.no_covers-none.ensures _ c.entered-in-At.ensures _ c.in-At.is refl)
+returns-in-At c = (beg.start_ready c.args.l.now c.args.r.now c.args.roots (omega (arith, c.well_formed.1.1.0)) (omega (arith, c.well_formed.1.1.0)) c.requires.2 c.requires.3 c.requires.0 c.requires.1 _ c.shortened-prefix.ensures _ c.align.ensures (node.At _) (beg.reached c.args.l.now c.args.r.now c.args.roots (omega (arith, c.well_formed.1.1.0)) (omega (arith, c.well_formed.1.1.0)) c.requires.2 c.requires.3 c.requires.0 c.requires.1 _ c.shortened-prefix.ensures _ c.align.ensures _ c.in-At.is) _ c.at_depth-left.ensures _ c.no_covers-none.ensures _ c.entered-in-At.ensures, beg.there_list c.args.l.now c.args.r.now c.args.roots (omega (arith, c.well_formed.1.1.0)) (omega (arith, c.well_formed.1.1.0)) c.requires.2 c.requires.3 c.requires.0 c.requires.1 _ c.shortened-prefix.ensures _ c.align.ensures (node.At _) (beg.reached c.args.l.now c.args.r.now c.args.roots (omega (arith, c.well_formed.1.1.0)) (omega (arith, c.well_formed.1.1.0)) c.requires.2 c.requires.3 c.requires.0 c.requires.1 _ c.shortened-prefix.ensures _ c.align.ensures _ c.in-At.is) _ c.at_depth-left.ensures _ c.no_covers-none.ensures _ c.entered-in-At.ensures _ c.in-At.is refl)

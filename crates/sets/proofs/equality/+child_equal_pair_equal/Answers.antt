@@ -1,0 +1,70 @@
+-- `sets::equality::child_equal` and `pair_equal` meet their contracts. A pair asks its children with its own levels, and a child asks its pair with one level less.
+use Rattle.std.proofs.Common.{◌≡◌, ◌+◌, ◌*◌, ◌-◌, ◌<◌, ◌≤◌, ℕ, sym, ◌∙◌, subst, arith}
+use lib.Count.{count_trailing_zeros}
+use lib.Pow.{pow_pos}
+use Rattle.sets.specs.Listing.{side_of}
+use Rattle.sets.specs.Equality.{paired_short, child_last, child_paired, child_pair, comparing_start, comparing_on, next_inside, next_there, next_shift, pair_differs, comparing_fails, comparing_ends}
+use Rattle.sets.proofs.equality.+child_equal_pair_equal.Goals as goal
+
+at_least : {n : ℕ} → (n ≡ 0 → ⊥) → 1 ≤ n
+at_least h = omega arith
+
+one_less : {n : ℕ} → (n ≡ 0 → ⊥) → 2 * (n - 1) + 1 < 2 * n
+one_less h = omega arith
+
+pub child_equal-returns-then-levels-eq0 : goal.child_equal-returns-then-levels-eq0
+child_equal-returns-then-levels-eq0 t c = child_last (side_of c.args.l.now c.args.roots.left) (side_of c.args.r.now c.args.roots.right) c.args.p c.args.left c.args.right c.args.levels c.requires.0 (omega (arith, c.well_formed.1.1.1.0)) c.args.c c.requires.1 c.if-levels-eq0.true
+
+pub child_equal-child_at-a-requires : goal.child_equal-child_at-a-requires
+child_equal-child_at-a-requires t c = (c.requires.0.sane_left, c.requires.0.in_left, c.requires.1)
+
+pub child_equal-child_at-b-requires : goal.child_equal-child_at-b-requires
+child_equal-child_at-b-requires t c = (c.requires.0.sane_right, c.requires.0.in_right, c.requires.1)
+
+pub child_equal-overflow_sub-levels : goal.child_equal-overflow_sub-levels
+child_equal-overflow_sub-levels t c = at_least c.if-levels-eq0.false
+
+pub child_equal-pair_equal-requires : goal.child_equal-pair_equal-requires
+child_equal-pair_equal-requires t c = (subst (λ (x : ℕ). 2 * (c.args.levels - 1) + 1 < x) c.decreases (one_less c.if-levels-eq0.false), child_paired (side_of c.args.l.now c.args.roots.left) (side_of c.args.r.now c.args.roots.right) c.args.p c.args.left c.args.right c.args.levels c.requires.0 (omega (arith, c.well_formed.1.1.1.0)) c.args.c c.requires.1 c.if-levels-eq0.false _ c.place_prefix-q.ensures _ _ c.child_at-a.ensures c.child_at-b.ensures)
+
+pub child_equal-returns : goal.child_equal-returns
+child_equal-returns t c = child_pair (side_of c.args.l.now c.args.roots.left) (side_of c.args.r.now c.args.roots.right) c.args.p c.args.left c.args.right c.args.levels c.requires.0 (omega (arith, c.well_formed.1.1.1.0)) c.args.c c.requires.1 c.if-levels-eq0.false _ c.place_prefix-q.ensures _ _ c.child_at-a.ensures c.child_at-b.ensures _ c.pair_equal.ensures
+
+pub pair_equal-kept_data-a-requires : goal.pair_equal-kept_data-a-requires
+pair_equal-kept_data-a-requires t c = (c.requires.sane_left, c.requires.in_left, c.requires.whole, paired_short c.requires)
+
+pub pair_equal-kept_data-b-requires : goal.pair_equal-kept_data-b-requires
+pair_equal-kept_data-b-requires t c = (c.requires.sane_right, c.requires.in_right, c.requires.whole, paired_short c.requires)
+
+pub pair_equal-returns-then-a-b : goal.pair_equal-returns-then-a-b
+pair_equal-returns-then-a-b t c = pair_differs (side_of c.args.l.now c.args.roots.left) (side_of c.args.r.now c.args.roots.right) c.args.p c.args.left c.args.right c.args.levels _ _ c.kept_data-a.ensures c.kept_data-b.ensures c.if-a-b.true
+
+pub pair_equal-bitmaps_at-requires : goal.pair_equal-bitmaps_at-requires
+pair_equal-bitmaps_at-requires t c = c.requires.in_left
+
+pub pair_equal-bitmaps_at-requires-2 : goal.pair_equal-bitmaps_at-requires-2
+pair_equal-bitmaps_at-requires-2 t c = c.requires.in_right
+
+pub pair_equal-child_equal-requires : goal.pair_equal-child_equal-requires
+pair_equal-child_equal-requires t c = (subst (λ (x : ℕ). 2 * c.args.levels < x) c.decreases (omega arith), (c.requires, next_inside (side_of c.args.l.now c.args.roots.left) (side_of c.args.r.now c.args.roots.right) c.args.p c.args.left c.args.right c.args.levels _ c.loop-todo.invariant (omega (arith, c.loop-todo-test.true))))
+
+pub pair_equal-returns-then-not-child_equal : goal.pair_equal-returns-then-not-child_equal
+pair_equal-returns-then-not-child_equal t c = comparing_fails (side_of c.args.l.now c.args.roots.left) (side_of c.args.r.now c.args.roots.right) c.args.p c.args.left c.args.right c.args.levels _ _ c.kept_data-a.ensures c.kept_data-b.ensures c.if-a-b.false _ (next_inside (side_of c.args.l.now c.args.roots.left) (side_of c.args.r.now c.args.roots.right) c.args.p c.args.left c.args.right c.args.levels _ c.loop-todo.invariant (omega (arith, c.loop-todo-test.true))) (sym c.child_equal.ensures ∙ c.if-not-child_equal.true)
+
+pub pair_equal-overflow_shl-todo : goal.pair_equal-overflow_shl-todo
+pair_equal-overflow_shl-todo t c = next_inside (side_of c.args.l.now c.args.roots.left) (side_of c.args.r.now c.args.roots.right) c.args.p c.args.left c.args.right c.args.levels _ c.loop-todo.invariant (omega (arith, c.loop-todo-test.true))
+
+pub pair_equal-overflow_sub-todo : goal.pair_equal-overflow_sub-todo
+pair_equal-overflow_sub-todo t c = omega (arith, next_shift (side_of c.args.l.now c.args.roots.left) (side_of c.args.r.now c.args.roots.right) c.args.p c.args.left c.args.right c.args.levels _ c.loop-todo.invariant (omega (arith, c.loop-todo-test.true)), next_there (side_of c.args.l.now c.args.roots.left) (side_of c.args.r.now c.args.roots.right) c.args.p c.args.left c.args.right c.args.levels _ c.loop-todo.invariant (omega (arith, c.loop-todo-test.true)))
+
+pub pair_equal-returns : goal.pair_equal-returns
+pair_equal-returns t c = comparing_ends (side_of c.args.l.now c.args.roots.left) (side_of c.args.r.now c.args.roots.right) c.args.p c.args.left c.args.right c.args.levels _ _ c.kept_data-a.ensures c.kept_data-b.ensures c.if-a-b.false _ c.loop-todo-test.false c.loop-todo.invariant
+
+pub pair_equal-loop-todo-init : goal.pair_equal-loop-todo-init
+pair_equal-loop-todo-init t c = comparing_start (side_of c.args.l.now c.args.roots.left) (side_of c.args.r.now c.args.roots.right) c.args.p c.args.left c.args.right c.args.levels _ _ _ c.bitmaps_at.ensures c.bitmaps_at-2.ensures c.wanted-some.ensures (omega arith)
+
+pub pair_equal-loop-todo-smaller : goal.pair_equal-loop-todo-smaller
+pair_equal-loop-todo-smaller t c = omega (arith, next_shift (side_of c.args.l.now c.args.roots.left) (side_of c.args.r.now c.args.roots.right) c.args.p c.args.left c.args.right c.args.levels _ c.loop-todo.invariant (omega (arith, c.loop-todo-test.true)), next_there (side_of c.args.l.now c.args.roots.left) (side_of c.args.r.now c.args.roots.right) c.args.p c.args.left c.args.right c.args.levels _ c.loop-todo.invariant (omega (arith, c.loop-todo-test.true)), pow_pos (count_trailing_zeros 32 c.loop-todo.todo))
+
+pub pair_equal-loop-todo-preserved : goal.pair_equal-loop-todo-preserved
+pair_equal-loop-todo-preserved t c = rw (next_shift (side_of c.args.l.now c.args.roots.left) (side_of c.args.r.now c.args.roots.right) c.args.p c.args.left c.args.right c.args.levels _ c.loop-todo.invariant (omega (arith, c.loop-todo-test.true))) (comparing_on (side_of c.args.l.now c.args.roots.left) (side_of c.args.r.now c.args.roots.right) c.args.p c.args.left c.args.right c.args.levels _ c.loop-todo.invariant (omega (arith, c.loop-todo-test.true)) (sym c.child_equal.ensures ∙ c.if-not-child_equal.false))
