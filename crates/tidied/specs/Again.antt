@@ -1,5 +1,5 @@
 -- The tidy pool's words are laid out as its bits say, and all its nodes are used: tidied again, its values are 0, 1, 2, ..
-use Rattle.std.specs.Prelude.{◌≡◌, refl, true, ℕ, zero, suc, ◌+◌, ◌-◌, ◌^◌, ◌≤◌, ◌<◌, length, get_or, take}
+use Rattle.std.specs.Prelude.{◌≡◌, refl, true, ℕ, zero, suc, ◌+◌, ◌^◌, ◌≤◌, ◌<◌, length, get_or, take}
 use Rattle.std.proofs.Math.Path.{sym, ap}
 use Rattle.std.proofs.Common.{◌∙◌, subst, arith, length-append, take-suc, ext_get_or}
 use mathlib.Core.List.{List, [], ◌∷◌, ◌++◌, map, append-nil}
