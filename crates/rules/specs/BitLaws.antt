@@ -18,15 +18,15 @@ module _ (x y b : ℕ) where
   abbrev v : ℕ
   v = y / 2 ^ b
 
-  pub bit_and : bit b (bit_and x y) ≡ (bit b x && bit b y)
-  bit_and =
+  pub bit_and_lem : bit b (bit_and x y) ≡ (bit b x && bit b y)
+  bit_and_lem =
       ap (λ (n : ℕ). eqb n 1) (ap (◌% 2) (and_shr x y b) ∙ and_mod u v 1)
       ∙ by_two (λ m. (n : ℕ) → n < 2 → eqb (bit_and m n) 1 ≡ (eqb m 1 && eqb n 1))
       (by_two (λ n. eqb (bit_and 0 n) 1 ≡ (eqb 0 1 && eqb n 1)) refl refl) (by_two (λ n. eqb (bit_and 1 n) 1 ≡ (eqb 1 1 && eqb n 1)) refl refl)
       (u % 2) (mod-lt u (omega arith)) (v % 2) (mod-lt v (omega arith))
 
-  pub bit_or : bit b (bit_or x y) ≡ (bit b x || bit b y)
-  bit_or =
+  pub bit_or_lem : bit b (bit_or x y) ≡ (bit b x || bit b y)
+  bit_or_lem =
       ap (λ (n : ℕ). eqb n 1) (ap (◌% 2) (or_shr x y b) ∙ or_mod u v 1)
       ∙ by_two (λ m. (n : ℕ) → n < 2 → eqb (bit_or m n) 1 ≡ (eqb m 1 || eqb n 1))
       (by_two (λ n. eqb (bit_or 0 n) 1 ≡ (eqb 0 1 || eqb n 1)) refl refl) (by_two (λ n. eqb (bit_or 1 n) 1 ≡ (eqb 1 1 || eqb n 1)) refl refl)

@@ -8,7 +8,7 @@ use Rattle.defs.specs.Lemmas.{All, nil, more}
 use Rattle.theory.specs.Steps.{place_bit}
 use Rattle.view.specs.declared.Bitmaps.{Bitmaps}
 use Rattle.view.specs.declared.Coverage.{Coverage}
-use Rattle.rules.specs.BitLaws.{bit_and, bit_or, bit_less}
+use Rattle.rules.specs.BitLaws.{bit_and_lem, bit_or_lem, bit_less}
 
 -- bits of either
 abbrev pub either_of : Bitmaps → Bitmaps → Bitmaps
@@ -27,12 +27,12 @@ abbrev pub place_in : Bitmaps → Place → Bool
 place_in b x = place_bit b.data b.child x
 
 pub either_bit : (l r : Bitmaps) (x : Place) → place_in (either_of l r) x ≡ (place_in l x || place_in r x)
-either_bit l r (data_place n v) = bit_or l.data r.data (data_bit n v)
-either_bit l r (child_place c) = bit_or l.child r.child c
+either_bit l r (data_place n v) = bit_or_lem l.data r.data (data_bit n v)
+either_bit l r (child_place c) = bit_or_lem l.child r.child c
 
 pub both_bit : (l r : Bitmaps) (x : Place) → place_in (both_of l r) x ≡ (place_in l x && place_in r x)
-both_bit l r (data_place n v) = bit_and l.data r.data (data_bit n v)
-both_bit l r (child_place c) = bit_and l.child r.child c
+both_bit l r (data_place n v) = bit_and_lem l.data r.data (data_bit n v)
+both_bit l r (child_place c) = bit_and_lem l.child r.child c
 
 pub less_bit : (l : Bitmaps) (r : Coverage) (x : Place) → place_in (less_of l r) x ≡ (place_in l x && not (place_bit r.data r.child x))
 less_bit l r (data_place n v) = bit_less l.data r.data (data_bit n v)

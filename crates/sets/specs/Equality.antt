@@ -29,7 +29,7 @@ use Rattle.view.specs.Emptiness.{both_true, below_of, below_fails}
 use Rattle.view.specs.Kept.{kept_none}
 use Rattle.view.specs.Descent.{cut_to, node_down}
 use Rattle.walk.specs.declared.Roots.{Roots}
-use Rattle.rules.specs.BitLaws.{bit_or}
+use Rattle.rules.specs.BitLaws.{bit_or_lem}
 use Rattle.rules.specs.Wanted.{either_of}
 use Rattle.sets.specs.Listing.{side_of, Passed, passed_rows, depth_short, common_entering, common_left, common_right}
 use Rattle.sets.specs.SameKeys.{kept, child_on, equal_at, whole_child, equal_says}
@@ -120,7 +120,7 @@ module _ (l r : Side) (p : Prefix) (a b : Node) (levels : ℕ) where
   comparing_start x y m ex ey em h = record { small = h; so_far = none_there }
     where
       unset : (c : ℕ) → bit c m.child ≡ (bit c (bitmaps_of l.pool a).child || bit c (bitmaps_of r.pool b).child)
-      unset c = ap (λ (z : Bitmaps). bit c z.child) (em ∙ ap₂ either_of ex ey) ∙ bit_or (bitmaps_of l.pool a).child (bitmaps_of r.pool b).child c
+      unset c = ap (λ (z : Bitmaps). bit c z.child) (em ∙ ap₂ either_of ex ey) ∙ bit_or_lem (bitmaps_of l.pool a).child (bitmaps_of r.pool b).child c
 
       none_there : (c : ℕ) → c < 32 → bit c m.child ≡ false → asked c ≡ true
       none_there c i e =

@@ -7,7 +7,7 @@ use Rattle.view.specs.Climb.{Climbing, climb_start, climb_unset, climb_outside, 
 use Rattle.view.proofs.climbed.Given as goal
 
 abbrev pub invariant-loop-up : goal.invariant-loop-up
-invariant-loop-up l = Climbing (record { pool = l.words; l.root = l.root }) (node.At l.i) l.p l.above l.h l.up
+invariant-loop-up l = Climbing (record { pool = l.words; root = l.root }) (node.At l.i) l.p l.above l.h l.up
 
 abbrev pub decreases-loop-up : goal.decreases-loop-up
 decreases-loop-up l = l.up

@@ -1,4 +1,5 @@
 -- `view::held_value` meets its contract. By the two tests; the sum fits since every value index is below 31 times the nodes.
+use Rattle.std.proofs.Common.{ap}
 use borrow.Author.Tests.{not-true, not-false}
 use mathlib.Core.Path.{sym, ◌∙◌}
 use Rattle.view.specs.Standing.{value_unset, value_outside, value_held, value_room}
@@ -6,13 +7,13 @@ use borrow.Author.Rules.{rules}
 use Rattle.view.proofs.held_value.Goals as goal
 
 pub returns-then-not-bit : goal.returns-then-not-bit
-returns-then-not-bit c = value_unset c.args.words.now c.args.root c.args.i c.args.b c.args.q _ c.data_bits-held.ensures (sym c.bit.ensures ∙ not-true _ c.if-not-bit.true)
+returns-then-not-bit c = value_unset c.args.words.now c.args.root c.args.i c.args.b c.args.q _ c.data_bits-held.ensures (sym c.bit.ensures ∙ c.if-not-bit.true)
 
 pub returns-then-not-leads : goal.returns-then-not-leads
-returns-then-not-leads c = value_outside c.args.words.now c.args.root c.args.i c.args.b c.args.q 0 (sym c.leads.ensures ∙ not-true _ c.if-not-leads.true)
+returns-then-not-leads c = value_outside c.args.words.now c.args.root c.args.i c.args.b c.args.q 0 (sym c.leads.ensures ∙ c.if-not-leads.true)
 
 pub overflow_add-result : goal.overflow_add-result
-overflow_add-result c = record { fits = value_room _ c.requires.0 c.args.i c.args.b c.requires.1 c.requires.2 _ _ _ c.data_bits-held.ensures (sym c.bit.ensures ∙ not-false _ c.if-not-bit.false) c.first_value.ensures c.rank.ensures }
+overflow_add-result c = record { fits = value_room _ c.requires.0 c.args.i c.args.b c.requires.1 c.requires.2 _ _ _ c.data_bits-held.ensures (sym c.bit.ensures ∙ c.if-not-bit.false) c.first_value.ensures c.rank.ensures }
 
 pub returns : goal.returns
-returns c = value_held c.args.words.now c.args.root c.args.i c.args.b c.args.q _ c.data_bits-held.ensures (sym c.bit.ensures ∙ not-false _ c.if-not-bit.false) (sym c.leads.ensures ∙ not-false _ c.if-not-leads.false) _ _ c.first_value.ensures c.rank.ensures
+returns c = value_held c.args.words.now c.args.root c.args.i c.args.b c.args.q _ c.data_bits-held.ensures (sym c.bit.ensures ∙ c.if-not-bit.false) (sym c.leads.ensures ∙ c.if-not-leads.false) _ _ c.first_value.ensures c.rank.ensures

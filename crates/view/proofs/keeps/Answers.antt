@@ -1,4 +1,5 @@
 -- `view::keeps` meets its contract. By the test of the bit.
+use Rattle.std.proofs.Common.{ap}
 use native.Mathlib.Omega.{arith}
 use mathlib.Core.Path.{sym, ◌∙◌}
 use borrow.Author.Tests.{not-true, not-false}
@@ -7,7 +8,7 @@ use borrow.Author.Rules.{rules}
 use Rattle.view.proofs.keeps.Goals as goal
 
 pub returns-then-not-bit : goal.returns-then-not-bit
-returns-then-not-bit c = keep_unset c.args.held c.args.root c.args.p c.args.b (sym c.bit.ensures ∙ not-true _ c.if-not-bit.true)
+returns-then-not-bit c = keep_unset c.args.held c.args.root c.args.p c.args.b (sym c.bit.ensures ∙ c.if-not-bit.true)
 
 pub returns : goal.returns
-returns c = c.leads.ensures ∙ keep_test c.args.held c.args.root c.args.p c.args.b c.requires.0 c.requires.1 c.requires.2 (omega arith) (sym c.bit.ensures ∙ not-false _ c.if-not-bit.false) _ c.place_prefix.ensures
+returns c = c.leads.ensures ∙ keep_test c.args.held c.args.root c.args.p c.args.b c.requires.0 c.requires.1 c.requires.2 (omega arith) (sym c.bit.ensures ∙ c.if-not-bit.false) _ c.place_prefix.ensures

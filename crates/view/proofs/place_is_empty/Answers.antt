@@ -1,4 +1,5 @@
 -- `view::place_is_empty` meets its contract. At each turn the first c children hold nothing; the measure is the children left.
+use Rattle.std.proofs.Common.{ap}
 use native.Mathlib.Omega.{arith}
 use mathlib.Core.Path.{sym, ◌∙◌}
 use Prim.Native.Nat.{◌-◌}
@@ -19,7 +20,7 @@ pub kid_is_empty-requires : goal.kid_is_empty-requires
 kid_is_empty-requires c = (c.requires.0, c.requires.1, c.requires.2, c.loop-c-test.true)
 
 pub returns-then-not-kid_is_empty : goal.returns-then-not-kid_is_empty
-returns-then-not-kid_is_empty c = searching_fails c.args.words.now c.args.root c.args.levels c.args.node c.args.p _ c.kept_data.ensures c.if-kept_data-ne0.false _ c.loop-c-test.true (sym c.kid_is_empty.ensures ∙ not-true _ c.if-not-kid_is_empty.true)
+returns-then-not-kid_is_empty c = searching_fails c.args.words.now c.args.root c.args.levels c.args.node c.args.p _ c.kept_data.ensures c.if-kept_data-ne0.false _ c.loop-c-test.true (sym c.kid_is_empty.ensures ∙ c.if-not-kid_is_empty.true)
 
 pub overflow_add-c : goal.overflow_add-c
 overflow_add-c c = omega arith
@@ -28,7 +29,7 @@ pub loop-c-smaller : goal.loop-c-smaller
 loop-c-smaller c = omega arith
 
 pub loop-c-preserved : goal.loop-c-preserved
-loop-c-preserved c = searching_on c.args.words.now c.args.root c.args.levels c.args.node c.args.p _ c.loop-c-test.true c.loop-c.invariant (sym c.kid_is_empty.ensures ∙ not-false _ c.if-not-kid_is_empty.false)
+loop-c-preserved c = searching_on c.args.words.now c.args.root c.args.levels c.args.node c.args.p _ c.loop-c-test.true c.loop-c.invariant (sym c.kid_is_empty.ensures ∙ c.if-not-kid_is_empty.false)
 
 pub returns : goal.returns
 returns c = searching_ends c.args.words.now c.args.root c.args.levels c.args.node c.args.p _ c.kept_data.ensures c.if-kept_data-ne0.false _ c.loop-c-test.false c.loop-c.invariant

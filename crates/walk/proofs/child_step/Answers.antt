@@ -8,7 +8,10 @@ pub returns-then-f-ge60 : goal.returns-then-f-ge60
 returns-then-f-ge60 c = moves.child_last (job_of c.args.op c.args.l.now c.args.r.now c.args.roots) c.args.f c.requires.0 (omega arith) c.args.h c.requires.1 c.requires.2 c.if-f-ge60.true
 
 pub down_to-requires : goal.down_to-requires
-down_to-requires c = (moves.child_entering (job_of c.args.op c.args.l.now c.args.r.now c.args.roots) c.args.f c.requires.0 (omega arith) c.args.h c.requires.1 c.requires.2 c.if-f-ge60.false _ c.place_prefix-q.ensures _ _ c.child_at-left.ensures c.child_at-right.ensures _ c.covers_for-above.ensures, moves.child_carries (job_of c.args.op c.args.l.now c.args.r.now c.args.roots) c.args.f c.requires.0 (omega arith) c.args.h c.requires.1 c.requires.2 c.if-f-ge60.false _ c.place_prefix-q.ensures _ _ c.child_at-left.ensures c.child_at-right.ensures _ c.covers_for-above.ensures)
+down_to-requires c = record {
+  entering = moves.child_entering (job_of c.args.op c.args.l.now c.args.r.now c.args.roots) c.args.f c.requires.0 (omega arith) c.args.h c.requires.1 c.requires.2 c.if-f-ge60.false _ c.place_prefix-q.ensures _ _ c.child_at-left.ensures c.child_at-right.ensures _ c.covers_for-above.ensures;
+  above_value = moves.child_carries (job_of c.args.op c.args.l.now c.args.r.now c.args.roots) c.args.f c.requires.0 (omega arith) c.args.h c.requires.1 c.requires.2 c.if-f-ge60.false _ c.place_prefix-q.ensures _ _ c.child_at-left.ensures c.child_at-right.ensures _ c.covers_for-above.ensures;
+}
 
 pub returns : goal.returns
 returns c = moves.child_step (job_of c.args.op c.args.l.now c.args.r.now c.args.roots) c.args.f c.requires.0 (omega arith) c.args.h c.requires.1 c.requires.2 c.if-f-ge60.false _ c.place_prefix-q.ensures _ _ c.child_at-left.ensures c.child_at-right.ensures _ c.covers_for-above.ensures _ c.down_to.ensures

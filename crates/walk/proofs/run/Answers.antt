@@ -9,7 +9,7 @@ use Rattle.walk.specs.Ready.{job_of}
 use Rattle.walk.proofs.run.Goals as goal
 
 pub loop-n-init : goal.loop-n-init
-loop-n-init c = loops.run_start (loops.Placed c.args.writes c.args.out.now c.args.out.now 0 0) (job_of c.args.op c.args.l.now c.args.r.now c.args.roots) _ c.requires.0 (loops.placed_none c.args.writes c.args.out.now)
+loop-n-init c = loops.run_start (loops.Placed c.args.writes c.args.out.now c.args.out.now 0 0) (job_of c.args.op c.args.l.now c.args.r.now c.args.roots) _ c.requires.ready (loops.placed_none c.args.writes c.args.out.now)
 
 pub offset_bounds-stack-k : goal.offset_bounds-stack-k
 offset_bounds-stack-k c = omega (arith, loops.run_inside (loops.Placed c.args.writes c.args.out.now c.loop-n.out c.loop-n.at c.loop-n.count) (job_of c.args.op c.args.l.now c.args.r.now c.args.roots) (level_rest (job_of c.args.op c.args.l.now c.args.r.now c.args.roots) c.args.start) _ _ c.loop-n.invariant c.loop-n-test.true)
@@ -45,31 +45,31 @@ pub bounds-stack-k-in-Record : goal.bounds-stack-k-in-Record
 bounds-stack-k-in-Record c = loops.run_inside (loops.Placed c.args.writes c.args.out.now c.loop-n.out c.loop-n.at c.loop-n.count) (job_of c.args.op c.args.l.now c.args.r.now c.args.roots) (level_rest (job_of c.args.op c.args.l.now c.args.r.now c.args.roots) c.args.start) _ _ c.loop-n.invariant c.loop-n-test.true
 
 pub offset_bounds-out-at : goal.offset_bounds-out-at
-offset_bounds-out-at c = let r = loops.placed_room c.args.writes c.args.out.now _ _ _ _ (level_rest (job_of c.args.op c.args.l.now c.args.r.now c.args.roots) c.args.start) c.loop-n.invariant.beside (loops.run_more (loops.Placed c.args.writes c.args.out.now c.loop-n.out c.loop-n.at c.loop-n.count) (job_of c.args.op c.args.l.now c.args.r.now c.args.roots) (level_rest (job_of c.args.op c.args.l.now c.args.r.now c.args.roots) c.args.start) _ _ c.loop-n.invariant c.loop-n-test.true _ c.step.ensures _ _ c.in-Record.is) c.requires.1.1 in omega (arith, c.loop-n.invariant.beside.written.same, c.before.before.before.before.before.before.before.before.before.before.well-formed.1.1.1.1.1.1.0.0, c.before.before.before.before.before.before.before.before.before.before.well-formed.1.1.1.1.1.1.0.1)
+offset_bounds-out-at c = let r = loops.placed_room c.args.writes c.args.out.now _ _ _ _ (level_rest (job_of c.args.op c.args.l.now c.args.r.now c.args.roots) c.args.start) c.loop-n.invariant.beside (loops.run_more (loops.Placed c.args.writes c.args.out.now c.loop-n.out c.loop-n.at c.loop-n.count) (job_of c.args.op c.args.l.now c.args.r.now c.args.roots) (level_rest (job_of c.args.op c.args.l.now c.args.r.now c.args.roots) c.args.start) _ _ c.loop-n.invariant c.loop-n-test.true _ c.step.ensures _ _ c.in-Record.is) c.requires.room in omega (arith, c.loop-n.invariant.beside.written.same)
 
 pub slice_bounds-put_if-count : goal.slice_bounds-put_if-count
-slice_bounds-put_if-count c = let r = loops.placed_room c.args.writes c.args.out.now _ _ _ _ (level_rest (job_of c.args.op c.args.l.now c.args.r.now c.args.roots) c.args.start) c.loop-n.invariant.beside (loops.run_more (loops.Placed c.args.writes c.args.out.now c.loop-n.out c.loop-n.at c.loop-n.count) (job_of c.args.op c.args.l.now c.args.r.now c.args.roots) (level_rest (job_of c.args.op c.args.l.now c.args.r.now c.args.roots) c.args.start) _ _ c.loop-n.invariant c.loop-n-test.true _ c.step.ensures _ _ c.in-Record.is) c.requires.1.1 in omega arith
+slice_bounds-put_if-count c = let r = loops.placed_room c.args.writes c.args.out.now _ _ _ _ (level_rest (job_of c.args.op c.args.l.now c.args.r.now c.args.roots) c.args.start) c.loop-n.invariant.beside (loops.run_more (loops.Placed c.args.writes c.args.out.now c.loop-n.out c.loop-n.at c.loop-n.count) (job_of c.args.op c.args.l.now c.args.r.now c.args.roots) (level_rest (job_of c.args.op c.args.l.now c.args.r.now c.args.roots) c.args.start) _ _ c.loop-n.invariant c.loop-n-test.true _ c.step.ensures _ _ c.in-Record.is) c.requires.room in omega arith
 
 pub slice_bounds-put_if-start : goal.slice_bounds-put_if-start
-slice_bounds-put_if-start c = let r = loops.placed_room c.args.writes c.args.out.now _ _ _ _ (level_rest (job_of c.args.op c.args.l.now c.args.r.now c.args.roots) c.args.start) c.loop-n.invariant.beside (loops.run_more (loops.Placed c.args.writes c.args.out.now c.loop-n.out c.loop-n.at c.loop-n.count) (job_of c.args.op c.args.l.now c.args.r.now c.args.roots) (level_rest (job_of c.args.op c.args.l.now c.args.r.now c.args.roots) c.args.start) _ _ c.loop-n.invariant c.loop-n-test.true _ c.step.ensures _ _ c.in-Record.is) c.requires.1.1 in omega arith
+slice_bounds-put_if-start c = let r = loops.placed_room c.args.writes c.args.out.now _ _ _ _ (level_rest (job_of c.args.op c.args.l.now c.args.r.now c.args.roots) c.args.start) c.loop-n.invariant.beside (loops.run_more (loops.Placed c.args.writes c.args.out.now c.loop-n.out c.loop-n.at c.loop-n.count) (job_of c.args.op c.args.l.now c.args.r.now c.args.roots) (level_rest (job_of c.args.op c.args.l.now c.args.r.now c.args.roots) c.args.start) _ _ c.loop-n.invariant c.loop-n-test.true _ c.step.ensures _ _ c.in-Record.is) c.requires.room in omega arith
 
 pub slice_bounds-put_if-end : goal.slice_bounds-put_if-end
-slice_bounds-put_if-end c = let r = loops.placed_room c.args.writes c.args.out.now _ _ _ _ (level_rest (job_of c.args.op c.args.l.now c.args.r.now c.args.roots) c.args.start) c.loop-n.invariant.beside (loops.run_more (loops.Placed c.args.writes c.args.out.now c.loop-n.out c.loop-n.at c.loop-n.count) (job_of c.args.op c.args.l.now c.args.r.now c.args.roots) (level_rest (job_of c.args.op c.args.l.now c.args.r.now c.args.roots) c.args.start) _ _ c.loop-n.invariant c.loop-n-test.true _ c.step.ensures _ _ c.in-Record.is) c.requires.1.1 in omega arith
+slice_bounds-put_if-end c = let r = loops.placed_room c.args.writes c.args.out.now _ _ _ _ (level_rest (job_of c.args.op c.args.l.now c.args.r.now c.args.roots) c.args.start) c.loop-n.invariant.beside (loops.run_more (loops.Placed c.args.writes c.args.out.now c.loop-n.out c.loop-n.at c.loop-n.count) (job_of c.args.op c.args.l.now c.args.r.now c.args.roots) (level_rest (job_of c.args.op c.args.l.now c.args.r.now c.args.roots) c.args.start) _ _ c.loop-n.invariant c.loop-n-test.true _ c.step.ensures _ _ c.in-Record.is) c.requires.room in omega arith
 
 pub put_if-at-requires : goal.put_if-at-requires
-put_if-at-requires c = let r = loops.placed_room c.args.writes c.args.out.now _ _ _ _ (level_rest (job_of c.args.op c.args.l.now c.args.r.now c.args.roots) c.args.start) c.loop-n.invariant.beside (loops.run_more (loops.Placed c.args.writes c.args.out.now c.loop-n.out c.loop-n.at c.loop-n.count) (job_of c.args.op c.args.l.now c.args.r.now c.args.roots) (level_rest (job_of c.args.op c.args.l.now c.args.r.now c.args.roots) c.args.start) _ _ c.loop-n.invariant c.loop-n-test.true _ c.step.ensures _ _ c.in-Record.is) c.requires.1.1 in rw (length-take, length-drop) (omega arith)
+put_if-at-requires c = let r = loops.placed_room c.args.writes c.args.out.now _ _ _ _ (level_rest (job_of c.args.op c.args.l.now c.args.r.now c.args.roots) c.args.start) c.loop-n.invariant.beside (loops.run_more (loops.Placed c.args.writes c.args.out.now c.loop-n.out c.loop-n.at c.loop-n.count) (job_of c.args.op c.args.l.now c.args.r.now c.args.roots) (level_rest (job_of c.args.op c.args.l.now c.args.r.now c.args.roots) c.args.start) _ _ c.loop-n.invariant c.loop-n-test.true _ c.step.ensures _ _ c.in-Record.is) c.requires.room in rw (length-take, length-drop) (omega arith)
 
 pub overflow_add-at : goal.overflow_add-at
-overflow_add-at c = let r = loops.placed_room c.args.writes c.args.out.now _ _ _ _ (level_rest (job_of c.args.op c.args.l.now c.args.r.now c.args.roots) c.args.start) c.loop-n.invariant.beside (loops.run_more (loops.Placed c.args.writes c.args.out.now c.loop-n.out c.loop-n.at c.loop-n.count) (job_of c.args.op c.args.l.now c.args.r.now c.args.roots) (level_rest (job_of c.args.op c.args.l.now c.args.r.now c.args.roots) c.args.start) _ _ c.loop-n.invariant c.loop-n-test.true _ c.step.ensures _ _ c.in-Record.is) c.requires.1.1 in omega (arith, c.put_if-at.ensures.0, c.loop-n.invariant.beside.written.same, c.before.before.before.before.before.before.before.before.before.before.before.before.before.before.well-formed.1.1.1.1.1.1.0.0, c.before.before.before.before.before.before.before.before.before.before.before.before.before.before.well-formed.1.1.1.1.1.1.0.1)
+overflow_add-at c = let r = loops.placed_room c.args.writes c.args.out.now _ _ _ _ (level_rest (job_of c.args.op c.args.l.now c.args.r.now c.args.roots) c.args.start) c.loop-n.invariant.beside (loops.run_more (loops.Placed c.args.writes c.args.out.now c.loop-n.out c.loop-n.at c.loop-n.count) (job_of c.args.op c.args.l.now c.args.r.now c.args.roots) (level_rest (job_of c.args.op c.args.l.now c.args.r.now c.args.roots) c.args.start) _ _ c.loop-n.invariant c.loop-n-test.true _ c.step.ensures _ _ c.in-Record.is) c.requires.room in omega (arith, c.put_if-at.ensures.0, c.loop-n.invariant.beside.written.same)
 
 pub overflow_add-count : goal.overflow_add-count
-overflow_add-count c = let r = (loops.run_more (loops.Placed c.args.writes c.args.out.now c.loop-n.out c.loop-n.at c.loop-n.count) (job_of c.args.op c.args.l.now c.args.r.now c.args.roots) (level_rest (job_of c.args.op c.args.l.now c.args.r.now c.args.roots) c.args.start) _ _ c.loop-n.invariant c.loop-n-test.true _ c.step.ensures _ _ c.in-Record.is) in omega (arith, c.loop-n.invariant.beside.counted, c.requires.1.0)
+overflow_add-count c = let r = (loops.run_more (loops.Placed c.args.writes c.args.out.now c.loop-n.out c.loop-n.at c.loop-n.count) (job_of c.args.op c.args.l.now c.args.r.now c.args.roots) (level_rest (job_of c.args.op c.args.l.now c.args.r.now c.args.roots) c.args.start) _ _ c.loop-n.invariant c.loop-n-test.true _ c.step.ensures _ _ c.in-Record.is) in omega (arith, c.loop-n.invariant.beside.counted, c.requires.start_len_bound)
 
 pub loop-n-smaller-in-Record : goal.loop-n-smaller-in-Record
 loop-n-smaller-in-Record c = loops.fewer_record (loops.Placed c.args.writes c.args.out.now c.loop-n.out c.loop-n.at c.loop-n.count) (job_of c.args.op c.args.l.now c.args.r.now c.args.roots) (level_rest (job_of c.args.op c.args.l.now c.args.r.now c.args.roots) c.args.start) _ _ c.loop-n.invariant c.loop-n-test.true _ c.step.ensures _ _ c.in-Record.is
 
 pub loop-n-preserved-in-Record : goal.loop-n-preserved-in-Record
-loop-n-preserved-in-Record c = loops.run_record (loops.Placed c.args.writes c.args.out.now c.loop-n.out c.loop-n.at c.loop-n.count) (loops.Placed c.args.writes c.args.out.now _ (c.loop-n.at + c.put_if-at.result) (c.loop-n.count + 1)) (job_of c.args.op c.args.l.now c.args.r.now c.args.roots) (level_rest (job_of c.args.op c.args.l.now c.args.r.now c.args.roots) c.args.start) _ _ c.loop-n.invariant c.loop-n-test.true _ c.step.ensures _ _ c.in-Record.is (λ done m p. loops.placed_more c.args.writes c.args.out.now _ _ _ done (level_rest (job_of c.args.op c.args.l.now c.args.r.now c.args.roots) c.args.start) _ _ _ p m c.requires.1.1 c.put_if-at.ensures.1 c.put_if-at.ensures.0)
+loop-n-preserved-in-Record c = loops.run_record (loops.Placed c.args.writes c.args.out.now c.loop-n.out c.loop-n.at c.loop-n.count) (loops.Placed c.args.writes c.args.out.now _ (c.loop-n.at + c.put_if-at.result) (c.loop-n.count + 1)) (job_of c.args.op c.args.l.now c.args.r.now c.args.roots) (level_rest (job_of c.args.op c.args.l.now c.args.r.now c.args.roots) c.args.start) _ _ c.loop-n.invariant c.loop-n-test.true _ c.step.ensures _ _ c.in-Record.is (λ done m p. loops.placed_more c.args.writes c.args.out.now _ _ _ done (level_rest (job_of c.args.op c.args.l.now c.args.r.now c.args.roots) c.args.start) _ _ _ p m c.requires.room c.put_if-at.ensures.1 c.put_if-at.ensures.0)
 
 pub offset_bounds-stack-k-in-Down : goal.offset_bounds-stack-k-in-Down
 offset_bounds-stack-k-in-Down c = omega (arith, loops.run_inside (loops.Placed c.args.writes c.args.out.now c.loop-n.out c.loop-n.at c.loop-n.count) (job_of c.args.op c.args.l.now c.args.r.now c.args.roots) (level_rest (job_of c.args.op c.args.l.now c.args.r.now c.args.roots) c.args.start) _ _ c.loop-n.invariant c.loop-n-test.true)
