@@ -2,7 +2,6 @@
 use Rattle.tidy.specs.Kept as kept
 use mathlib.Core.Path.{refl, sym, ◌∙◌}
 use native.Mathlib.Omega.{arith}
-use borrow.Author.Rules.{rules}
 use Rattle.tidy.proofs.kid_is_used.Goals as goal
 
 pub returns-then-not-bit : goal.returns-then-not-bit

@@ -8,7 +8,6 @@ use Rattle.view.specs.Standing.{nodes_few}
 use Rattle.bits.specs.WordLaws.{ones_le}
 use Rattle.defs.specs.Pool.{ones}
 use mathlib.Core.Path.{ap, ◌∙◌}
-use Prim.Native.Nat.{◌-◌}
 use native.Mathlib.Omega.{arith}
 use Rattle.tidy.proofs.measure.Goals as goal
 

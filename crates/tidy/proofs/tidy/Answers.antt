@@ -3,7 +3,6 @@ use Rattle.tidy.specs.Call as call
 use Rattle.defs.specs.declared.Answer.{Answer}
 use mathlib.Core.Path.{ap, ◌∙◌}
 use native.Mathlib.Omega.{arith}
-use borrow.Author.Rules.{rules}
 use Rattle.tidy.proofs.tidy.Goals as goal
 
 pub returns-then-a-ne0 : goal.returns-then-a-ne0

@@ -9,7 +9,6 @@ use Rattle.bits.specs.WordLaws.{ones_le}
 use Rattle.defs.specs.Pool.{ones}
 use lib.ListN.{length-take, length-drop}
 use mathlib.Core.Path.{ap, ◌∙◌}
-use Prim.Native.Nat.{◌-◌}
 use native.Mathlib.Omega.{arith}
 use Rattle.tidy.proofs.write.Goals as goal
 
