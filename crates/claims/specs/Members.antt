@@ -12,7 +12,7 @@ use Rattle.defs.specs.Basics.{keep, any}
 use Rattle.defs.specs.Prefix.{first, leads, same}
 use Rattle.defs.specs.Entries.{Entry, prefixes}
 use Rattle.defs.specs.Lists.{Record, plain, covered, left_only, find, is_in, is_led, longest, all_of, records_of}
-use Rattle.defs.specs.Lemmas.{All, more, split, not_both, is_false, and_left, and_right, all_kept, map_map, map_ext, keep_map}
+use Rattle.defs.specs.Lemmas.{All, nil, more, split, not_both, is_false, and_left, and_right, all_kept, map_map, map_ext, keep_map}
 use Rattle.defs.specs.PrefixLaws.{same_self, same_says}
 use Rattle.defs.specs.OrderLaws.{among, among_merge, among_keep}
 use Rattle.defs.specs.ListLaws.{prefix_of, prefix_plain, prefix_covered}
@@ -81,6 +81,7 @@ members CoveringUnion L R p = among_all p L R
 module _ {A : Type 0} where
   -- what holds of each of a list holds of its members
   pub all_member : {P : A → Type 0} {x : A} {xs : List A} → All P xs → Memᴰ x xs → P x
+  all_member nil m = elim m [ ]
   all_member {P} (more h k) (Memᴰ.head e) = subst P (sym e) h
   all_member (more h k) (Memᴰ.tail m) = all_member k m
 

@@ -1,6 +1,6 @@
 -- Refusal tables whose rows are said in plain terms, and what their answers then say.
 use Rattle.std.specs.Prelude.{◌≡◌, refl, Bool, true, false, not, ◌&&◌, ◌||◌, List, [], ◌∷◌, ◌++◌, map, ℕ, ◌/◌, ◌≤◌, ◌<◌, ltb, eqb, length}
-use Rattle.std.proofs.Common.{sym, ◌∙◌, inl, inr, arith, ltb-true, ltb-false, lt-ltb, le-ltb, eqb-true, eq-eqb, ne_eqb}
+use Rattle.std.proofs.Common.{sym, ◌∙◌, ap, inl, inr, arith, ltb-true, ltb-false, lt-ltb, le-ltb, eqb-true, eq-eqb, ne_eqb}
 use Rattle.std.proofs.lemmas.Bool.{false≢true, eqb-false, not-true}
 use Rattle.defs.specs.declared.Answer.{Answer}
 use Rattle.defs.specs.Basics.{if◌then◌else◌, any, every}
@@ -118,8 +118,17 @@ or_second false b c h = rw h
 pub only_these : (rs : List Row) (done : ℕ) → any (eqb (first_of rs done).number) (0 ∷ map number_of rs) ≡ true
 only_these [] done = refl
 only_these (r ∷ rs) done =
-    split r.holds (λ t. rw t (or_second (eqb (number_of r) 0) (eqb (number_of r) (number_of r)) (any (eqb (number_of r)) (map number_of rs)) (eq-eqb (number_of r) (number_of r) refl)))
-    (λ t. let n = (first_of rs done).number in rw t (or_middle (eqb n 0) (eqb n (number_of r)) (any (eqb n) (map number_of rs)) (only_these rs done)))
+    split r.holds
+    (λ t.
+    given r.refusal (rw t)
+    (or_second (eqb (number_of r) 0) (eqb (number_of r) (number_of r)) (any (eqb (number_of r)) (map number_of rs)) (eq-eqb (number_of r) (number_of r) refl)))
+    (λ t.
+    let n = (first_of rs done).number in
+    given (first_of rs done) (rw t) (or_middle (eqb n 0) (eqb n (number_of r)) (any (eqb n) (map number_of rs)) (only_these rs done)))
+  where
+    given : (a : Answer) → first_of (r ∷ rs) done ≡ a → any (eqb a.number) (0 ∷ map number_of (r ∷ rs)) ≡ true
+        → any (eqb (first_of (r ∷ rs) done).number) (0 ∷ map number_of (r ∷ rs)) ≡ true
+    given a e h = ap (λ (b : Answer). any (eqb b.number) (0 ∷ map number_of (r ∷ rs))) e ∙ h
 
 -- ---- the rows
 module _ (width : ℕ) where

@@ -1,5 +1,5 @@
 -- The tidy pool's words are laid out as its bits say, and all its nodes are used: tidied again, its values are 0, 1, 2, ..
-use Rattle.std.specs.Prelude.{◌≡◌, refl, true, ℕ, zero, suc, ◌+◌, ◌-◌, ◌^◌, ◌≤◌, ◌<◌, length, get_or, take}
+use Rattle.std.specs.Prelude.{◌≡◌, refl, true, ℕ, zero, suc, ◌+◌, ◌^◌, ◌≤◌, ◌<◌, length, get_or, take}
 use Rattle.std.proofs.Math.Path.{sym, ap}
 use Rattle.std.proofs.Common.{◌∙◌, subst, arith, length-append, take-suc, ext_get_or}
 use mathlib.Core.List.{List, [], ◌∷◌, ◌++◌, map, append-nil}
@@ -112,9 +112,11 @@ module _ (es : List Entry) (s : Sound top es) where
   -- every node of the tidy pool but the root is used
   pub pool_used : All (λ t. used pool top t ≡ true) (inner_spots pool)
   unfolding inner_spots
-  pool_used =
-      all_imp (λ (t : Spot) h. ap (λ (l : List Entry). is_under l t.at) (under_top (all_entries pool) (sound_all pool)) ∙ under_same (all_entries pool) es (tidy_prefixes es s) t.at ∙ h)
-      (used_levels 12 (placed_under root_spot (root_node es top)))
+  pool_used = all_imp one (used_levels 12 (placed_under root_spot (root_node es top)))
+    where
+      one : (t : Spot) → is_under es t.at ≡ true → used pool top t ≡ true
+      one t h =
+          ap (λ (l : List Entry). is_under l t.at) (under_top (all_entries pool) (sound_all pool)) ∙ under_same (all_entries pool) es (tidy_prefixes es s) t.at ∙ h
 
   pub values_again : tidy_values (view pool top) ≡ up_to (length es)
   values_again =

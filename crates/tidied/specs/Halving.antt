@@ -1,5 +1,5 @@
 -- A sorted list's entries below a prefix: the prefix itself, then those below its two halves.
-use Rattle.std.specs.Prelude.{◌≡◌, refl, Bool, true, ◌||◌, ◌⊎◌, List, [], ◌∷◌, ◌++◌, ℕ, suc, ◌+◌, ◌-◌, ◌*◌, ◌/◌, ◌%◌, ◌^◌, ◌≤◌, ◌<◌}
+use Rattle.std.specs.Prelude.{◌≡◌, refl, Bool, true, ◌||◌, List, [], ◌∷◌, ◌++◌, ℕ, suc, ◌+◌, ◌-◌, ◌*◌, ◌/◌, ◌%◌, ◌^◌, ◌≤◌, ◌<◌}
 use Rattle.std.proofs.Common.{sym, ap, ap₂, ◌∙◌, ⊎_elim, arith, eq-or-lt_of_le, eq-zero-or-pos, shr-shr}
 use Rattle.std.proofs.Math.Bool.{or-true}
 use Rattle.defs.specs.declared.Prefix.{Prefix}

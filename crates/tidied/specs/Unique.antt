@@ -1,5 +1,5 @@
 -- There is only one tidy pool: a pool without a fault, with no node but the root unused, is its own tidy pool.
-use Rattle.std.specs.Prelude.{◌≡◌, refl, true, List, [], ◌∷◌, map, ℕ, zero, suc, ◌+◌, ◌-◌, ◌*◌, ◌^◌, ◌≤◌, ◌<◌, length, get_or, drop}
+use Rattle.std.specs.Prelude.{◌≡◌, refl, true, List, [], ◌∷◌, map, ℕ, zero, suc, ◌+◌, ◌*◌, ◌^◌, ◌≤◌, ◌<◌, length, get_or, drop}
 use Rattle.std.proofs.Math.Path.{sym, ap}
 use Rattle.std.proofs.Common.{ap₂, ◌∙◌, subst, arith, lit<, ltb-true, drop_of_length-le, drop-cons}
 use Rattle.defs.specs.declared.Prefix.{Prefix}

@@ -1,7 +1,6 @@
 -- `tidy::below_node` meets its contract. The children of one node that lie on one path with the root stand one after the other.
 use Rattle.tidy.specs.Runs as runs
 use native.Mathlib.Omega.{arith}
-use borrow.Author.Rules.{rules}
 use Rattle.tidy.proofs.below_node.Goals as goal
 
 pub open_span-places-requires : goal.open_span-places-requires

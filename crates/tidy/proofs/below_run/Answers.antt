@@ -1,6 +1,5 @@
 -- `tidy::below_run` meets its contract. Both ends are read from the words.
 use Rattle.tidy.specs.Runs as runs
-use borrow.Author.Rules.{rules}
 use Rattle.tidy.proofs.below_run.Goals as goal
 
 pub returns : goal.returns

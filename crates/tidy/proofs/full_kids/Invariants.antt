@@ -1,8 +1,5 @@
 -- `tidy::full_kids` meets its contract. The word of the children asked so far; the measure is the bits left, as a number.
 use Rattle.tidy.specs.Full as full
-use native.Mathlib.Omega.{arith}
-use lib.Pow.{pow_pos}
-use lib.Count.{count_trailing_zeros}
 use Rattle.tidy.proofs.full_kids.Given as goal
 
 abbrev pub invariant-loop-left : goal.invariant-loop-left

@@ -1,6 +1,5 @@
 -- `tidy::is_blank` meets its contract. No node before i has a value; the measure is the nodes left.
 use Rattle.tidy.specs.Blank as blank
-use native.Mathlib.Omega.{arith}
 use Prim.Native.Nat.{◌-◌}
 use Rattle.tidy.proofs.is_blank.Given as goal
 

@@ -1,7 +1,6 @@
 -- `tidy::is_full` meets its contract. The run of a level decides, all levels above it being blank; the measure is the levels left.
 use Rattle.tidy.specs.Blank as blank
 use native.Mathlib.Omega.{arith}
-use borrow.Author.Tests.{not-true, not-false}
 use mathlib.Core.Path.{sym, ◌∙◌}
 use Rattle.view.specs.Standing.{nodes_few}
 use Rattle.tidy.proofs.is_full.Goals as goal
@@ -19,7 +18,7 @@ pub is_blank-requires : goal.is_blank-requires
 is_blank-requires c = c.loop-from.invariant.within
 
 pub returns-then-not-is_blank : goal.returns-then-not-is_blank
-returns-then-not-is_blank c = blank.sinking_found c.args.words.now c.requires.0 c.args.levels c.args.node _ _ _ c.loop-from.invariant c.if-left-eq0.false (sym c.is_blank.ensures ∙ not-true _ c.if-not-is_blank.true)
+returns-then-not-is_blank c = blank.sinking_found c.args.words.now c.requires.0 c.args.levels c.args.node _ _ _ c.loop-from.invariant c.if-left-eq0.false (sym c.is_blank.ensures ∙ c.if-not-is_blank.true)
 
 pub kids_from-from-requires : goal.kids_from-from-requires
 kids_from-from-requires c = (c.requires.0, omega (arith, c.loop-from.invariant.ordered, c.loop-from.invariant.within))
@@ -34,7 +33,7 @@ pub loop-from-smaller : goal.loop-from-smaller
 loop-from-smaller c = omega (arith, c.if-left-eq0.false)
 
 pub loop-from-preserved : goal.loop-from-preserved
-loop-from-preserved c = blank.sinking_on c.args.words.now c.requires.0 c.args.levels c.args.node _ _ _ c.loop-from.invariant c.if-left-eq0.false (sym c.is_blank.ensures ∙ not-false _ c.if-not-is_blank.false) _ _ c.kids_from-from.ensures c.kids_from-to.ensures
+loop-from-preserved c = blank.sinking_on c.args.words.now c.requires.0 c.args.levels c.args.node _ _ _ c.loop-from.invariant c.if-left-eq0.false (sym c.is_blank.ensures ∙ c.if-not-is_blank.false) _ _ c.kids_from-from.ensures c.kids_from-to.ensures
 
 pub returns : goal.returns
 returns c = blank.sinking_out c.args.words.now c.requires.0 c.args.levels c.args.node _ _ _ c.loop-from.invariant c.loop-from-test.false

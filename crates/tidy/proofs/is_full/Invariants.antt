@@ -1,9 +1,5 @@
 -- `tidy::is_full` meets its contract. The run of a level decides, all levels above it being blank; the measure is the levels left.
 use Rattle.tidy.specs.Blank as blank
-use native.Mathlib.Omega.{arith}
-use borrow.Author.Tests.{not-true, not-false}
-use mathlib.Core.Path.{sym, ◌∙◌}
-use Rattle.view.specs.Standing.{nodes_few}
 use Rattle.tidy.proofs.is_full.Given as goal
 
 abbrev pub invariant-loop-from : goal.invariant-loop-from

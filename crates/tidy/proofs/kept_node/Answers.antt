@@ -1,6 +1,5 @@
 -- `tidy::kept_node` meets its contract. By where the node stands: before the run, on the way to the root, or under it.
 use Rattle.tidy.specs.Runs as runs
-use borrow.Author.Rules.{rules}
 use Rattle.tidy.proofs.kept_node.Goals as goal
 
 pub returns-then-i-run : goal.returns-then-i-run

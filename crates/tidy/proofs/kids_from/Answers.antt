@@ -1,7 +1,6 @@
 -- `tidy::kids_from` meets its contract. After the last node all children are counted.
 use Rattle.tidy.specs.Blank as blank
 use native.Mathlib.Omega.{arith}
-use borrow.Author.Rules.{rules}
 use Rattle.tidy.proofs.kids_from.Goals as goal
 
 pub returns-then-i-words : goal.returns-then-i-words

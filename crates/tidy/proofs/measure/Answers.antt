@@ -8,7 +8,6 @@ use Rattle.view.specs.Standing.{nodes_few}
 use Rattle.bits.specs.WordLaws.{ones_le}
 use Rattle.defs.specs.Pool.{ones}
 use mathlib.Core.Path.{ap, ◌∙◌}
-use Prim.Native.Nat.{◌-◌}
 use native.Mathlib.Omega.{arith}
 use Rattle.tidy.proofs.measure.Goals as goal
 
@@ -58,4 +57,4 @@ pub loop-i-preserved : goal.loop-i-preserved
 loop-i-preserved c = (chosen.counting_off (kept.data_on c.args.words.now c.args.root) (kept.kids_on c.args.words.now c.args.root) _ _ _ _ c.loop-i-test.true c.loop-i.invariant.0 (call.kept_says c.args.words.now c.args.root c.requires.0 _ _ c.kept_node-b.ensures _ c.is_kept.ensures ∙ c.if-is_kept.false), runs.standing_on c.args.words.now c.requires.0 c.args.root _ _ c.run_at-run.ensures.0 c.run_at-run.ensures.1)
 
 pub returns : goal.returns
-returns c = call.decreases c.args.words.now c.args.root c.requires.0 _ _ _ (omega (arith, c.loop-i-test.false)) c.loop-i.invariant.0
+returns c = call.measured c.args.words.now c.args.root c.requires.0 _ _ _ (omega (arith, c.loop-i-test.false)) c.loop-i.invariant.0

@@ -1,15 +1,8 @@
 -- `tidy::measure` meets its contract. The nodes and entries of the first i nodes; the measure is the nodes left.
 use Rattle.tidy.specs.Runs as runs
-use Rattle.tidy.specs.Call as call
 use Rattle.tidy.specs.Chosen as chosen
 use Rattle.tidy.specs.Kept as kept
-use Rattle.view.specs.declared.Bitmaps.{Bitmaps}
-use Rattle.view.specs.Standing.{nodes_few}
-use Rattle.bits.specs.WordLaws.{ones_le}
-use Rattle.defs.specs.Pool.{ones}
-use mathlib.Core.Path.{ap, ◌∙◌}
 use Prim.Native.Nat.{◌-◌}
-use native.Mathlib.Omega.{arith}
 use Rattle.tidy.proofs.measure.Given as goal
 
 abbrev pub invariant-loop-i : goal.invariant-loop-i

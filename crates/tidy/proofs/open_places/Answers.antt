@@ -2,7 +2,6 @@
 use Rattle.tidy.specs.Runs as runs
 use native.Mathlib.Omega.{arith}
 use Rattle.bits.specs.Worked.{one_shl}
-use borrow.Author.Rules.{rules}
 use Rattle.tidy.proofs.open_places.Goals as goal
 
 pub returns-then-depth-len : goal.returns-then-depth-len

@@ -5,7 +5,6 @@ use lib.Pow.{pow_pos}
 use mathlib.Core.Path.{refl}
 use Prim.Native.Nat.{◌+◌, ◌-◌}
 use native.Mathlib.Nat.{mod-le}
-use borrow.Author.Rules.{rules}
 use Rattle.tidy.proofs.open_span.Goals as goal
 
 pub returns-then-depth-gt59 : goal.returns-then-depth-gt59

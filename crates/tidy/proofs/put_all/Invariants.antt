@@ -1,8 +1,6 @@
 -- `tidy::put_all` meets its contract. The first `at` values stand at the front; the measure is the values left.
 use Rattle.tidy.specs.Chosen as chosen
-use native.Mathlib.Omega.{arith}
 use Prim.Native.Nat.{◌-◌}
-use mathlib.Core.Path.{refl}
 use Rattle.tidy.proofs.put_all.Given as goal
 
 abbrev pub invariant-loop-at : goal.invariant-loop-at

@@ -2,7 +2,6 @@
 use Rattle.tidy.specs.Chosen as chosen
 use lib.ListN.{length-set}
 use native.Mathlib.Omega.{arith}
-use borrow.Author.Rules.{rules}
 use Rattle.tidy.proofs.put_node.Goals as goal
 
 pub bounds-out-1 : goal.bounds-out-1

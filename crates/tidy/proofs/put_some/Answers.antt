@@ -2,7 +2,7 @@
 use Rattle.tidy.specs.Chosen as chosen
 use Rattle.bits.specs.WordLaws.{rank_le}
 use mathlib.Core.Path.{sym, ap, ◌∙◌}
-use Prim.Native.Nat.{◌-◌, ◌+◌}
+use Prim.Native.Nat.{◌+◌}
 use native.Mathlib.Omega.{arith}
 use Rattle.tidy.proofs.put_some.Goals as goal
 

@@ -1,9 +1,6 @@
 -- `tidy::put_some` meets its contract. The values of the first b data bits stand at the front; the measure is the bits left.
 use Rattle.tidy.specs.Chosen as chosen
-use Rattle.bits.specs.WordLaws.{rank_le}
-use mathlib.Core.Path.{sym, ap, ◌∙◌}
-use Prim.Native.Nat.{◌-◌, ◌+◌}
-use native.Mathlib.Omega.{arith}
+use Prim.Native.Nat.{◌-◌}
 use Rattle.tidy.proofs.put_some.Given as goal
 
 abbrev pub invariant-loop-b : goal.invariant-loop-b

@@ -6,7 +6,6 @@ use mathlib.Core.Path.{◌∙◌, ap}
 use mathlib.Core.List.{List}
 use Prim.Native.Nat.{ℕ}
 use Rattle.defs.specs.Pool.{ones}
-use borrow.Author.Rules.{rules}
 use Rattle.tidy.proofs.put_values.Goals as goal
 
 pub put_all-requires : goal.put_all-requires

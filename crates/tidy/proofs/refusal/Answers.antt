@@ -1,7 +1,6 @@
 -- `tidy::refusal` meets its contract. By the rows of the table.
 use Rattle.tidy.specs.Call as call
 use mathlib.Core.Path.{◌∙◌}
-use borrow.Author.Rules.{rules}
 use Rattle.tidy.proofs.refusal.Goals as goal
 
 pub returns-then-a-eq1 : goal.returns-then-a-eq1

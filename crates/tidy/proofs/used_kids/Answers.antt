@@ -1,6 +1,5 @@
 -- `tidy::used_kids` meets its contract. The word of the first c children; the measure is the children left.
 use Rattle.tidy.specs.Kept as kept
-use Prim.Native.Nat.{◌-◌}
 use native.Mathlib.Omega.{arith}
 use Rattle.tidy.proofs.used_kids.Goals as goal
 

@@ -1,6 +1,5 @@
 -- `tidy::way_node` meets its contract. Both words are those of the tidy pool.
 use Rattle.tidy.specs.Kept as kept
-use borrow.Author.Rules.{rules}
 use Rattle.tidy.proofs.way_node.Goals as goal
 
 pub kept_data-kept-requires : goal.kept_data-kept-requires

@@ -1,16 +1,7 @@
 -- `tidy::write` meets its contract. The words and values of the first i nodes stand at the front; the measure is the nodes left.
 use Rattle.tidy.specs.Runs as runs
 use Rattle.tidy.specs.Call as call
-use Rattle.tidy.specs.Chosen as chosen
-use Rattle.tidy.specs.Kept as kept
-use Rattle.view.specs.declared.Bitmaps.{Bitmaps}
-use Rattle.view.specs.Standing.{nodes_few}
-use Rattle.bits.specs.WordLaws.{ones_le}
-use Rattle.defs.specs.Pool.{ones}
-use lib.ListN.{length-take, length-drop}
-use mathlib.Core.Path.{ap, ◌∙◌}
 use Prim.Native.Nat.{◌-◌}
-use native.Mathlib.Omega.{arith}
 use Rattle.tidy.proofs.write.Given as goal
 
 abbrev pub invariant-loop-i : goal.invariant-loop-i
