@@ -1,5 +1,5 @@
 -- Bits and ranks of words.
-use Rattle.std.specs.Prelude.{◌≡◌, ℕ, zero, suc, ◌+◌, ◌-◌, ◌/◌, ◌%◌, ◌^◌, ◌<◌, ◌≤◌, true, false, ◌==◌, nat_eq, nat_lt, refl}
+use Rattle.std.specs.Prelude.{◌≡◌, ℕ, zero, suc, ◌+◌, ◌/◌, ◌%◌, ◌^◌, ◌<◌, ◌≤◌, true, false, ◌==◌, nat_eq, nat_lt, refl}
 use Rattle.std.proofs.Common.{sym, ap, ap₂, ◌∙◌, arith, mod-lt, mod-eq_of_lt, div-one, zero-lt-suc, not-suc-le-zero, le_of_suc-le-suc, lt_of_lt_of_le, lt_of_not-le, add-one, pow_pos, pow_mono, shr-shr, ltb-true, ltb-false, eqb-true, eq-eqb}
 use Rattle.std.proofs.Math.Nat.{div-eq_of_lt, pow-succ'}
 use Rattle.std.proofs.Math.Arith.{lt-one}

@@ -108,7 +108,7 @@ fn written(
     out: &mut [u64],
 ) -> Answer
     requires ready { Ready (job_of op l.now r.now roots) start × Few (job_of op l.now r.now roots) start }
-    requires start_in_bounds { record_words * length (level_rest (job_of op l.now r.now roots) start) ≤ length out.old }
+    requires room { record_words * length (level_rest (job_of op l.now r.now roots) start) ≤ length out.old }
     ensures { leaves result out.new ≡ room_outcome (level_rest (job_of op l.now r.now roots) start) out.old }
 {
     let n = walk::run(op, l, r, roots, start, true, out);

@@ -1,5 +1,5 @@
 -- What a step means: what a level has to give is what the step gives and what is left after it.
-use Rattle.std.specs.Prelude.{◌≡◌, refl, Bool, true, false, not, List, [], ◌∷◌, ℕ, zero, suc, ◌+◌, ◌-◌, ◌/◌, ◌≤◌, ◌<◌}
+use Rattle.std.specs.Prelude.{◌≡◌, refl, Bool, true, false, not, List, [], ◌∷◌, ℕ, zero, suc, ◌+◌, ◌/◌, ◌≤◌, ◌<◌}
 use Rattle.std.proofs.Common.{◌∙◌, ap, subst, arith, eq-eqb}
 use Rattle.std.proofs.Math.Option.{Option, none, some}
 use Rattle.std.proofs.lemmas.Bool.{not-true}
@@ -20,7 +20,6 @@ use Rattle.theory.specs.declared.Cover.TheVariants.{Nothing, Of}
 use Rattle.theory.specs.declared.Item.TheVariants.{Left, Right}
 use Rattle.theory.specs.declared.Emit.{Emit}
 use Rattle.theory.specs.declared.Emit.TheVariants as emit
-use Rattle.theory.specs.declared.Step.TheVariants as step
 use Rattle.theory.specs.Covering.{own, covering}
 use Rattle.theory.specs.Picks.{picks}
 use Rattle.theory.specs.Nodes.{above_bits}

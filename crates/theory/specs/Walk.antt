@@ -23,7 +23,6 @@ use Rattle.defs.specs.DeeperLaws.{whole_deeper}
 use Rattle.theory.specs.declared.Node.{Node}
 use Rattle.theory.specs.declared.Node.TheVariants.{Absent, At}
 use Rattle.theory.specs.declared.Cover.{Cover}
-use Rattle.theory.specs.declared.Cover.TheVariants.{Nothing}
 use Rattle.theory.specs.declared.Covers.{Covers}
 use Rattle.theory.specs.declared.Emit.{Emit}
 use Rattle.theory.specs.declared.Emit.TheVariants as emit

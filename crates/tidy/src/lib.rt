@@ -360,7 +360,7 @@ fn measure(words: &[u32], root: Prefix) -> Size
 // The kept nodes in order, each into the parts of the two buffers that start after what is already written.
 fn write(words: &[u32], root: Prefix, out: &mut [u32], values: &mut [u32])
     requires sane { Sane words.now × (root.len ≤ 64) }
-    requires root_in_bounds { (4 * length (nodes_of (view words.now root)) ≤ length out.old) × (length (view words.now root) ≤ length values.old) }
+    requires room { (4 * length (nodes_of (view words.now root)) ≤ length out.old) × (length (view words.now root) ≤ length values.old) }
     ensures { (out.new ≡ over (tidy_pool (view words.now root)) out.old) × (values.new ≡ over (tidy_values (view words.now root)) values.old) }
 {
     let n = words.len() / 4;

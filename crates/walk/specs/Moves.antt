@@ -26,7 +26,6 @@ use Rattle.theory.specs.declared.Level.{Level}
 use Rattle.theory.specs.declared.Step.{Step}
 use Rattle.theory.specs.declared.Step.TheVariants as step
 use Rattle.theory.specs.Sides.{value_in, child_in}
-use Rattle.theory.specs.Steps
 use Rattle.theory.specs.Steps.{Job, carried, no_covers, covers_at, emit_of, given, down_to, step_at, step_of, without, enter}
 use Rattle.theory.specs.Todo.{Lowest, lowest}
 use Rattle.theory.specs.Walk.{places_length}

@@ -273,7 +273,7 @@ pub fn run(
     out: &mut [u64],
 ) -> u64
     requires ready { Ready (job_of op l.now r.now roots) start }
-    requires start_len_bound { length (level_rest (job_of op l.now r.now roots) start) < 2 ^ 64 }
+    requires count_fits { length (level_rest (job_of op l.now r.now roots) start) < 2 ^ 64 }
     requires room { Room writes (level_rest (job_of op l.now r.now roots) start) out.old }
     ensures { (result ≡ length (level_rest (job_of op l.now r.now roots) start))
         × (out.new ≡ kept_or_written writes (level_rest (job_of op l.now r.now roots) start) out.old) }

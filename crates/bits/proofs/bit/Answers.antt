@@ -1,4 +1,4 @@
-use Rattle.std.proofs.Common.{sym, arith, rules}
+use Rattle.std.proofs.Common.{sym, arith}
 use Rattle.bits.specs.WordLaws.{bit_none}
 use Rattle.bits.proofs.bit.Goals as goal
 

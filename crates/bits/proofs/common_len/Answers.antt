@@ -1,4 +1,4 @@
-use Rattle.std.proofs.Common.{min, ap, ◌∙◌, arith, rules}
+use Rattle.std.proofs.Common.{min, ap, ◌∙◌, arith}
 use Rattle.bits.specs.CommonLaws.{common_is}
 use Rattle.bits.proofs.common_len.Goals as goal
 

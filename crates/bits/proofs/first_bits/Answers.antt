@@ -1,4 +1,4 @@
-use Rattle.std.proofs.Common.{ap, ◌∙◌, arith, rules}
+use Rattle.std.proofs.Common.{ap, ◌∙◌, arith}
 use lib.Bits.{bit_and}
 use Rattle.bits.specs.Worked.{mask_cut}
 use Rattle.bits.proofs.first_bits.Goals as goal

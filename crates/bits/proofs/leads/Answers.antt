@@ -1,4 +1,4 @@
-use Rattle.std.proofs.Common.{eqb, ◌∙◌, ap₂, arith, rules}
+use Rattle.std.proofs.Common.{eqb, ◌∙◌, ap₂, arith}
 use Rattle.bits.specs.Worked.{leads_is, leads_longer}
 use Rattle.bits.proofs.leads.Goals as goal
 

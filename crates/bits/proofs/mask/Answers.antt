@@ -1,4 +1,4 @@
-use Rattle.std.proofs.Common.{sym, div-le_self, arith, rules}
+use Rattle.std.proofs.Common.{sym, div-le_self, arith}
 use Rattle.bits.specs.Worked.{mask_is, mask_long}
 use Rattle.bits.proofs.mask.Goals as goal
 

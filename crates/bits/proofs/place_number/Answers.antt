@@ -1,4 +1,4 @@
-use Rattle.std.proofs.Common.{ℕ, ◌^◌, ◌<◌, ◌≤◌, sym, arith, pow_mono, rules}
+use Rattle.std.proofs.Common.{ℕ, ◌^◌, ◌<◌, ◌≤◌, sym, arith, pow_mono}
 use Rattle.bits.specs.Worked.{one_shl, number_wide, number_high}
 use Rattle.bits.specs.PlaceLaws.{place_number_lem}
 use Rattle.bits.proofs.place_number.Goals as goal

@@ -1,4 +1,4 @@
-use Rattle.std.proofs.Common.{sym, ◌∙◌, arith, rules}
+use Rattle.std.proofs.Common.{sym, ◌∙◌, arith}
 use Rattle.bits.specs.Worked.{prefix_none, prefix_long, prefix_is}
 use Rattle.bits.proofs.place_prefix.Goals as goal
 

@@ -1,4 +1,4 @@
-use Rattle.std.proofs.Common.{sym, ap, ◌∙◌, arith, rules}
+use Rattle.std.proofs.Common.{sym, ap, ◌∙◌, arith}
 use Rattle.bits.specs.Worked.{value_is}
 use Rattle.bits.specs.Places.{place_value}
 use Rattle.bits.specs.PlaceLaws.{made, place_value_none}

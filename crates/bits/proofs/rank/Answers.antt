@@ -1,4 +1,4 @@
-use Rattle.std.proofs.Common.{◌%◌, ap, ◌∙◌, arith, pow_pos, rules}
+use Rattle.std.proofs.Common.{◌%◌, ap, ◌∙◌, arith, pow_pos}
 use lib.Count.{ones}
 use Rattle.bits.specs.Worked.{one_shl}
 use Rattle.bits.specs.WordLaws.{rank_low, rank_all}

@@ -3,7 +3,6 @@ use native.Mathlib.Omega.{arith}
 use mathlib.Core.Path.{ap, ◌∙◌}
 use Rattle.bits.specs.WordLaws.{ones_le}
 use Rattle.defs.specs.Pool.{ones}
-use borrow.Author.Rules.{rules}
 use Rattle.pool.proofs.after.Goals as goal
 
 pub overflow_add-result : goal.overflow_add-result

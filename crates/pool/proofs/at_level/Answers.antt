@@ -1,5 +1,4 @@
 use Rattle.pool.specs.CheckLaws.{level_stays, level_next}
-use borrow.Author.Rules.{rules}
 use Rattle.pool.proofs.at_level.Goals as goal
 
 pub returns-then-c-gt0 : goal.returns-then-c-gt0

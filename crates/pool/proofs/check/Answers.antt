@@ -2,7 +2,6 @@ use native.Mathlib.Omega.{arith}
 use Rattle.std.proofs.Common.{sym, ◌∙◌, ap, not}
 use mathlib.Core.Logic.{inl, inr}
 use Rattle.pool.specs.CheckLaws.{unknown_width, known_width, width_small, fault_1, fault_2, fault_nodes}
-use borrow.Author.Rules.{rules}
 use Rattle.pool.proofs.check.Goals as goal
 
 pub returns-then-not-known_width : goal.returns-then-not-known_width

@@ -1,9 +1,7 @@
 -- `pool::check_nodes` meets its contract. Before each node, what is still to be found from the counts is the whole pool's first fault; the measure is the nodes left.
 use native.Mathlib.Omega.{arith}
 use mathlib.Core.Path.{sym, ◌∙◌}
-use Prim.Native.Nat.{◌-◌}
-use borrow.Author.Rules.{rules}
-use Rattle.pool.specs.CheckLaws.{Kept, kept_start, kept_bad, kept_on, kept_end}
+use Rattle.pool.specs.CheckLaws.{kept_start, kept_bad, kept_on, kept_end}
 use Rattle.pool.proofs.check_nodes.Goals as goal
 
 pub loop-i-init : goal.loop-i-init

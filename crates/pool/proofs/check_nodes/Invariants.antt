@@ -1,9 +1,6 @@
 -- `pool::check_nodes` meets its contract. Before each node, what is still to be found from the counts is the whole pool's first fault; the measure is the nodes left.
-use native.Mathlib.Omega.{arith}
-use mathlib.Core.Path.{sym, ◌∙◌}
 use Prim.Native.Nat.{◌-◌}
-use borrow.Author.Rules.{rules}
-use Rattle.pool.specs.CheckLaws.{Kept, kept_start, kept_bad, kept_on, kept_end}
+use Rattle.pool.specs.CheckLaws.{Kept}
 use Rattle.pool.proofs.check_nodes.Given as goal
 
 abbrev pub invariant-loop-i : goal.invariant-loop-i

@@ -3,7 +3,6 @@ use mathlib.Core.Path.{ap, ◌∙◌}
 use Prim.Native.Nat.{◌^◌}
 use Rattle.pool.specs.CheckLaws.{limit}
 use Rattle.defs.specs.Pool.{data_bit}
-use borrow.Author.Rules.{rules}
 use Rattle.pool.proofs.data_limit.Goals as goal
 
 pub overflow_sub-bits : goal.overflow_sub-bits

@@ -1,5 +1,4 @@
 use Rattle.pool.specs.CheckLaws.{in_order}
-use borrow.Author.Rules.{rules}
 use Rattle.pool.proofs.node_fault.Goals as goal
 
 pub returns : goal.returns

@@ -1,6 +1,5 @@
 use native.Mathlib.Omega.{arith}
 use Rattle.pool.specs.CheckLaws.{deep_is, deep_not}
-use borrow.Author.Rules.{rules}
 use Rattle.pool.proofs.too_deep.Goals as goal
 
 pub returns-then-width-depth : goal.returns-then-width-depth

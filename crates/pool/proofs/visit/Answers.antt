@@ -1,6 +1,5 @@
 use native.Mathlib.Omega.{arith}
 use Rattle.pool.specs.CheckLaws.{level_bounded, visit_none, visit_bad, visit_on}
-use borrow.Author.Rules.{rules}
 use Rattle.pool.proofs.visit.Goals as goal
 
 pub returns-then-c-eq0 : goal.returns-then-c-eq0

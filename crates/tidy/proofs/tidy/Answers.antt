@@ -18,7 +18,7 @@ pub returns-then-values-size : goal.returns-then-values-size
 returns-then-values-size c = ap (λ (x : Answer). call.leaves c.args.width (call.side_of c.args.words.now c.args.root) c.args.out.now c.args.values.now x c.args.out.now c.args.values.now) c.new-then-values-size.ensures ∙ call.tidy_no_space c.args.width (call.side_of c.args.words.now c.args.root) c.args.out.now c.args.values.now (call.code_passed c.args.width (call.side_of c.args.words.now c.args.root) _ c.refusal-a.ensures c.if-a-ne0.false) _ c.measure-size.ensures.0 c.if-out-size.false _ c.measure-size.ensures.1 c.if-values-size.true
 
 pub write-requires : goal.write-requires
-write-requires c = record { sane = (call.passed_sane c.args.width (call.side_of c.args.words.now c.args.root) (call.code_passed c.args.width (call.side_of c.args.words.now c.args.root) _ c.refusal-a.ensures c.if-a-ne0.false), call.passed_long c.args.width (call.side_of c.args.words.now c.args.root) (call.code_passed c.args.width (call.side_of c.args.words.now c.args.root) _ c.refusal-a.ensures c.if-a-ne0.false)); root_in_bounds = (call.tidy_fits c.args.width (call.side_of c.args.words.now c.args.root) c.args.out.now c.args.values.now (call.code_passed c.args.width (call.side_of c.args.words.now c.args.root) _ c.refusal-a.ensures c.if-a-ne0.false) _ c.measure-size.ensures.0 c.if-out-size.false, omega (arith, c.measure-size.ensures.1, c.if-values-size.false)) }
+write-requires c = record { sane = (call.passed_sane c.args.width (call.side_of c.args.words.now c.args.root) (call.code_passed c.args.width (call.side_of c.args.words.now c.args.root) _ c.refusal-a.ensures c.if-a-ne0.false), call.passed_long c.args.width (call.side_of c.args.words.now c.args.root) (call.code_passed c.args.width (call.side_of c.args.words.now c.args.root) _ c.refusal-a.ensures c.if-a-ne0.false)); room = (call.tidy_fits c.args.width (call.side_of c.args.words.now c.args.root) c.args.out.now c.args.values.now (call.code_passed c.args.width (call.side_of c.args.words.now c.args.root) _ c.refusal-a.ensures c.if-a-ne0.false) _ c.measure-size.ensures.0 c.if-out-size.false, omega (arith, c.measure-size.ensures.1, c.if-values-size.false)) }
 
 pub returns : goal.returns
 returns c = call.tidy_wrote c.args.width (call.side_of c.args.words.now c.args.root) c.args.out.now c.args.values.now (call.code_passed c.args.width (call.side_of c.args.words.now c.args.root) _ c.refusal-a.ensures c.if-a-ne0.false) _ c.measure-size.ensures.0 c.if-out-size.false _ c.measure-size.ensures.1 c.if-values-size.false _ _ _ c.new-2.ensures c.write.ensures.0 c.write.ensures.1

@@ -34,19 +34,19 @@ pub offset_bounds-out-at : goal.offset_bounds-out-at
 offset_bounds-out-at c = let r = chosen.writing_small (kept.data_on c.args.words.now c.args.root) (kept.kids_on c.args.words.now c.args.root) (call.values_on c.args.words.now c.args.root) _ _ _ _ _ _ _ _ _ c.loop-i.invariant.0 in omega (arith, c.loop-i-test.true, nodes_few c.args.words.now c.requires.sane.0, r.0)
 
 pub slice_bounds-put_node-count : goal.slice_bounds-put_node-count
-slice_bounds-put_node-count c = let r = call.copy_room c.args.words.now c.args.root c.requires.sane.0 c.args.out.now c.args.values.now c.requires.root_in_bounds _ _ _ _ _ _ c.loop-i-test.true c.loop-i.invariant.0 (call.kept_says c.args.words.now c.args.root c.requires.sane.0 _ _ c.kept_node-b.ensures _ c.is_kept.ensures ∙ c.if-is_kept.true) in omega (arith, r.0)
+slice_bounds-put_node-count c = let r = call.copy_room c.args.words.now c.args.root c.requires.sane.0 c.args.out.now c.args.values.now c.requires.room _ _ _ _ _ _ c.loop-i-test.true c.loop-i.invariant.0 (call.kept_says c.args.words.now c.args.root c.requires.sane.0 _ _ c.kept_node-b.ensures _ c.is_kept.ensures ∙ c.if-is_kept.true) in omega (arith, r.0)
 
 pub slice_bounds-put_node-start : goal.slice_bounds-put_node-start
-slice_bounds-put_node-start c = let r = call.copy_room c.args.words.now c.args.root c.requires.sane.0 c.args.out.now c.args.values.now c.requires.root_in_bounds _ _ _ _ _ _ c.loop-i-test.true c.loop-i.invariant.0 (call.kept_says c.args.words.now c.args.root c.requires.sane.0 _ _ c.kept_node-b.ensures _ c.is_kept.ensures ∙ c.if-is_kept.true) in omega (arith, r.0)
+slice_bounds-put_node-start c = let r = call.copy_room c.args.words.now c.args.root c.requires.sane.0 c.args.out.now c.args.values.now c.requires.room _ _ _ _ _ _ c.loop-i-test.true c.loop-i.invariant.0 (call.kept_says c.args.words.now c.args.root c.requires.sane.0 _ _ c.kept_node-b.ensures _ c.is_kept.ensures ∙ c.if-is_kept.true) in omega (arith, r.0)
 
 pub slice_bounds-put_node-end : goal.slice_bounds-put_node-end
-slice_bounds-put_node-end c = let r = call.copy_room c.args.words.now c.args.root c.requires.sane.0 c.args.out.now c.args.values.now c.requires.root_in_bounds _ _ _ _ _ _ c.loop-i-test.true c.loop-i.invariant.0 (call.kept_says c.args.words.now c.args.root c.requires.sane.0 _ _ c.kept_node-b.ensures _ c.is_kept.ensures ∙ c.if-is_kept.true) in omega (arith, r.0)
+slice_bounds-put_node-end c = let r = call.copy_room c.args.words.now c.args.root c.requires.sane.0 c.args.out.now c.args.values.now c.requires.room _ _ _ _ _ _ c.loop-i-test.true c.loop-i.invariant.0 (call.kept_says c.args.words.now c.args.root c.requires.sane.0 _ _ c.kept_node-b.ensures _ c.is_kept.ensures ∙ c.if-is_kept.true) in omega (arith, r.0)
 
 pub overflow_cast-count : goal.overflow_cast-count
 overflow_cast-count c = let r = chosen.writing_small (kept.data_on c.args.words.now c.args.root) (kept.kids_on c.args.words.now c.args.root) (call.values_on c.args.words.now c.args.root) _ _ _ _ _ _ _ _ _ c.loop-i.invariant.0 in omega (arith, c.loop-i-test.true, nodes_few c.args.words.now c.requires.sane.0, r.2)
 
 pub put_node-requires : goal.put_node-requires
-put_node-requires c = let s = chosen.writing_small (kept.data_on c.args.words.now c.args.root) (kept.kids_on c.args.words.now c.args.root) (call.values_on c.args.words.now c.args.root) _ _ _ _ _ _ _ _ _ c.loop-i.invariant.0 in let r = call.copy_room c.args.words.now c.args.root c.requires.sane.0 c.args.out.now c.args.values.now c.requires.root_in_bounds _ _ _ _ _ _ c.loop-i-test.true c.loop-i.invariant.0 (call.kept_says c.args.words.now c.args.root c.requires.sane.0 _ _ c.kept_node-b.ensures _ c.is_kept.ensures ∙ c.if-is_kept.true) in (rw (length-take, length-drop) (omega (arith, r.0)), omega (arith, c.loop-i-test.true, nodes_few c.args.words.now c.requires.sane.0, s.1))
+put_node-requires c = let s = chosen.writing_small (kept.data_on c.args.words.now c.args.root) (kept.kids_on c.args.words.now c.args.root) (call.values_on c.args.words.now c.args.root) _ _ _ _ _ _ _ _ _ c.loop-i.invariant.0 in let r = call.copy_room c.args.words.now c.args.root c.requires.sane.0 c.args.out.now c.args.values.now c.requires.room _ _ _ _ _ _ c.loop-i-test.true c.loop-i.invariant.0 (call.kept_says c.args.words.now c.args.root c.requires.sane.0 _ _ c.kept_node-b.ensures _ c.is_kept.ensures ∙ c.if-is_kept.true) in (rw (length-take, length-drop) (omega (arith, r.0)), omega (arith, c.loop-i-test.true, nodes_few c.args.words.now c.requires.sane.0, s.1))
 
 pub data_bits-held-requires : goal.data_bits-held-requires
 data_bits-held-requires c = c.loop-i-test.true
@@ -58,16 +58,16 @@ pub offset_bounds-values-count : goal.offset_bounds-values-count
 offset_bounds-values-count c = let r = chosen.writing_small (kept.data_on c.args.words.now c.args.root) (kept.kids_on c.args.words.now c.args.root) (call.values_on c.args.words.now c.args.root) _ _ _ _ _ _ _ _ _ c.loop-i.invariant.0 in omega (arith, c.loop-i-test.true, nodes_few c.args.words.now c.requires.sane.0, r.2)
 
 pub slice_bounds-put_values-count : goal.slice_bounds-put_values-count
-slice_bounds-put_values-count c = let r = call.copy_room c.args.words.now c.args.root c.requires.sane.0 c.args.out.now c.args.values.now c.requires.root_in_bounds _ _ _ _ _ _ c.loop-i-test.true c.loop-i.invariant.0 (call.kept_says c.args.words.now c.args.root c.requires.sane.0 _ _ c.kept_node-b.ensures _ c.is_kept.ensures ∙ c.if-is_kept.true) in omega (arith, r.1)
+slice_bounds-put_values-count c = let r = call.copy_room c.args.words.now c.args.root c.requires.sane.0 c.args.out.now c.args.values.now c.requires.room _ _ _ _ _ _ c.loop-i-test.true c.loop-i.invariant.0 (call.kept_says c.args.words.now c.args.root c.requires.sane.0 _ _ c.kept_node-b.ensures _ c.is_kept.ensures ∙ c.if-is_kept.true) in omega (arith, r.1)
 
 pub slice_bounds-put_values-start : goal.slice_bounds-put_values-start
-slice_bounds-put_values-start c = let r = call.copy_room c.args.words.now c.args.root c.requires.sane.0 c.args.out.now c.args.values.now c.requires.root_in_bounds _ _ _ _ _ _ c.loop-i-test.true c.loop-i.invariant.0 (call.kept_says c.args.words.now c.args.root c.requires.sane.0 _ _ c.kept_node-b.ensures _ c.is_kept.ensures ∙ c.if-is_kept.true) in omega (arith, r.1)
+slice_bounds-put_values-start c = let r = call.copy_room c.args.words.now c.args.root c.requires.sane.0 c.args.out.now c.args.values.now c.requires.room _ _ _ _ _ _ c.loop-i-test.true c.loop-i.invariant.0 (call.kept_says c.args.words.now c.args.root c.requires.sane.0 _ _ c.kept_node-b.ensures _ c.is_kept.ensures ∙ c.if-is_kept.true) in omega (arith, r.1)
 
 pub slice_bounds-put_values-end : goal.slice_bounds-put_values-end
-slice_bounds-put_values-end c = let r = call.copy_room c.args.words.now c.args.root c.requires.sane.0 c.args.out.now c.args.values.now c.requires.root_in_bounds _ _ _ _ _ _ c.loop-i-test.true c.loop-i.invariant.0 (call.kept_says c.args.words.now c.args.root c.requires.sane.0 _ _ c.kept_node-b.ensures _ c.is_kept.ensures ∙ c.if-is_kept.true) in omega (arith, r.1)
+slice_bounds-put_values-end c = let r = call.copy_room c.args.words.now c.args.root c.requires.sane.0 c.args.out.now c.args.values.now c.requires.room _ _ _ _ _ _ c.loop-i-test.true c.loop-i.invariant.0 (call.kept_says c.args.words.now c.args.root c.requires.sane.0 _ _ c.kept_node-b.ensures _ c.is_kept.ensures ∙ c.if-is_kept.true) in omega (arith, r.1)
 
 pub put_values-requires : goal.put_values-requires
-put_values-requires c = let r = call.copy_room c.args.words.now c.args.root c.requires.sane.0 c.args.out.now c.args.values.now c.requires.root_in_bounds _ _ _ _ _ _ c.loop-i-test.true c.loop-i.invariant.0 (call.kept_says c.args.words.now c.args.root c.requires.sane.0 _ _ c.kept_node-b.ensures _ c.is_kept.ensures ∙ c.if-is_kept.true) in (call.held_small c.args.words.now c.args.root c.requires.sane.0 _ c.loop-i-test.true _ c.data_bits-held.ensures, rw (length-take, length-drop) (omega (arith, r.1, ap (λ (x : Bitmaps). ones x.data) c.kept_node-b.ensures)), omega (arith, c.first_value-first.ensures, call.value_fits c.args.words.now c.args.root c.requires.sane.0 _ c.loop-i-test.true))
+put_values-requires c = let r = call.copy_room c.args.words.now c.args.root c.requires.sane.0 c.args.out.now c.args.values.now c.requires.room _ _ _ _ _ _ c.loop-i-test.true c.loop-i.invariant.0 (call.kept_says c.args.words.now c.args.root c.requires.sane.0 _ _ c.kept_node-b.ensures _ c.is_kept.ensures ∙ c.if-is_kept.true) in (call.held_small c.args.words.now c.args.root c.requires.sane.0 _ c.loop-i-test.true _ c.data_bits-held.ensures, rw (length-take, length-drop) (omega (arith, r.1, ap (λ (x : Bitmaps). ones x.data) c.kept_node-b.ensures)), omega (arith, c.first_value-first.ensures, call.value_fits c.args.words.now c.args.root c.requires.sane.0 _ c.loop-i-test.true))
 
 pub overflow_add-at : goal.overflow_add-at
 overflow_add-at c = let r = chosen.writing_small (kept.data_on c.args.words.now c.args.root) (kept.kids_on c.args.words.now c.args.root) (call.values_on c.args.words.now c.args.root) _ _ _ _ _ _ _ _ _ c.loop-i.invariant.0 in omega (arith, c.loop-i-test.true, nodes_few c.args.words.now c.requires.sane.0, r.0)
@@ -94,7 +94,7 @@ pub loop-i-smaller-then-is_kept : goal.loop-i-smaller-then-is_kept
 loop-i-smaller-then-is_kept c = omega (arith, c.loop-i-test.true)
 
 pub loop-i-preserved-then-is_kept : goal.loop-i-preserved-then-is_kept
-loop-i-preserved-then-is_kept c = (call.copy_on c.args.words.now c.args.root c.requires.sane.0 c.args.out.now c.args.values.now c.requires.root_in_bounds _ _ _ _ _ _ c.loop-i-test.true c.loop-i.invariant.0 (call.kept_says c.args.words.now c.args.root c.requires.sane.0 _ _ c.kept_node-b.ensures _ c.is_kept.ensures ∙ c.if-is_kept.true) _ c.kept_node-b.ensures _ _ c.data_bits-held.ensures c.first_value-first.ensures _ _ c.put_node.ensures c.put_values.ensures _ _ c.ones-children.ensures c.ones.ensures, runs.standing_on c.args.words.now c.requires.sane.0 c.args.root _ _ c.run_at-run.ensures.0 c.run_at-run.ensures.1)
+loop-i-preserved-then-is_kept c = (call.copy_on c.args.words.now c.args.root c.requires.sane.0 c.args.out.now c.args.values.now c.requires.room _ _ _ _ _ _ c.loop-i-test.true c.loop-i.invariant.0 (call.kept_says c.args.words.now c.args.root c.requires.sane.0 _ _ c.kept_node-b.ensures _ c.is_kept.ensures ∙ c.if-is_kept.true) _ c.kept_node-b.ensures _ _ c.data_bits-held.ensures c.first_value-first.ensures _ _ c.put_node.ensures c.put_values.ensures _ _ c.ones-children.ensures c.ones.ensures, runs.standing_on c.args.words.now c.requires.sane.0 c.args.root _ _ c.run_at-run.ensures.0 c.run_at-run.ensures.1)
 
 pub overflow_add-i-else-is_kept : goal.overflow_add-i-else-is_kept
 overflow_add-i-else-is_kept c = omega arith
@@ -103,7 +103,7 @@ pub loop-i-smaller : goal.loop-i-smaller
 loop-i-smaller c = omega (arith, c.loop-i-test.true)
 
 pub loop-i-preserved : goal.loop-i-preserved
-loop-i-preserved c = (call.copy_off c.args.words.now c.args.root c.requires.sane.0 c.args.out.now c.args.values.now c.requires.root_in_bounds _ _ _ _ _ _ c.loop-i-test.true c.loop-i.invariant.0 (call.kept_says c.args.words.now c.args.root c.requires.sane.0 _ _ c.kept_node-b.ensures _ c.is_kept.ensures ∙ c.if-is_kept.false), runs.standing_on c.args.words.now c.requires.sane.0 c.args.root _ _ c.run_at-run.ensures.0 c.run_at-run.ensures.1)
+loop-i-preserved c = (call.copy_off c.args.words.now c.args.root c.requires.sane.0 c.args.out.now c.args.values.now c.requires.room _ _ _ _ _ _ c.loop-i-test.true c.loop-i.invariant.0 (call.kept_says c.args.words.now c.args.root c.requires.sane.0 _ _ c.kept_node-b.ensures _ c.is_kept.ensures ∙ c.if-is_kept.false), runs.standing_on c.args.words.now c.requires.sane.0 c.args.root _ _ c.run_at-run.ensures.0 c.run_at-run.ensures.1)
 
 pub returns : goal.returns
-returns c = call.copy_end c.args.words.now c.args.root c.requires.sane.0 c.args.out.now c.args.values.now c.requires.root_in_bounds _ _ _ _ _ _ (omega (arith, c.loop-i-test.false)) c.loop-i.invariant.0
+returns c = call.copy_end c.args.words.now c.args.root c.requires.sane.0 c.args.out.now c.args.values.now c.requires.room _ _ _ _ _ _ (omega (arith, c.loop-i-test.false)) c.loop-i.invariant.0

@@ -1,8 +1,7 @@
 -- `view::is_empty` meets its contract. The measure of the calls is the levels left; at each turn the first j children are empty.
-use Rattle.std.proofs.Common.{◌≡◌, ◌+◌, ◌-◌, ◌≤◌, ◌<◌, ℕ, true, refl, sym, ap, ◌∙◌, subst, arith}
+use Rattle.std.proofs.Common.{◌≡◌, ◌-◌, ◌<◌, ℕ, refl, sym, ap, ◌∙◌, subst, arith}
 use Rattle.defs.specs.Pool.{ones}
-use Rattle.view.specs.Spreads.{below_all}
-use Rattle.view.specs.Emptiness.{empty_at, asking_on, asking_fails, asking_ends, kid_there}
+use Rattle.view.specs.Emptiness.{asking_on, asking_fails, asking_ends, kid_there}
 use Rattle.view.proofs.+is_empty.Goals as goal
 
 one_less : {n : ℕ} → (n ≡ 0 → ⊥) → n - 1 < n

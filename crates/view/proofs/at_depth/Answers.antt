@@ -1,7 +1,6 @@
 -- `view::at_depth` meets its contract. At depth d the node is the one d / 5 levels down; the measure is what is left of the depth.
 use native.Mathlib.Omega.{arith}
-use Prim.Native.Nat.{◌-◌}
-use Rattle.view.specs.Descent.{Going, going_start, going_in, going_on, going_end}
+use Rattle.view.specs.Descent.{going_start, going_in, going_on, going_end}
 use Rattle.view.proofs.at_depth.Goals as goal
 
 pub loop-d-init : goal.loop-d-init

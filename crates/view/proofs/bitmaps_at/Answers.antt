@@ -1,7 +1,6 @@
 -- `view::bitmaps_at` meets its contract. By the cases of the node.
 use mathlib.Core.Path.{sym, ap}
 use Rattle.view.specs.Standing.{in_at, bitmaps_of}
-use borrow.Author.Rules.{rules}
 use Rattle.view.proofs.bitmaps_at.Goals as goal
 
 pub data_bits-requires : goal.data_bits-requires

@@ -2,7 +2,6 @@
 use mathlib.Core.Path.{sym, ap, ◌∙◌}
 use Rattle.view.specs.Standing.{in_at}
 use Rattle.theory.specs.Sides.{child_in}
-use borrow.Author.Rules.{rules}
 use Rattle.view.proofs.child_at.Goals as goal
 
 pub held_child-requires : goal.held_child-requires

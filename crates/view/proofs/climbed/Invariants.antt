@@ -1,9 +1,6 @@
 -- `view::climbed` meets its contract. At each turn nothing between the place and `up` has a value; the measure is `up`.
-use mathlib.Core.Path.{sym, ◌∙◌}
-use native.Mathlib.Omega.{arith}
-use borrow.Author.Rules.{rules}
 use Rattle.theory.specs.declared.Node.TheVariants as node
-use Rattle.view.specs.Climb.{Climbing, climb_start, climb_unset, climb_outside, climb_found, climb_end, climb_room, half_some}
+use Rattle.view.specs.Climb.{Climbing}
 use Rattle.view.proofs.climbed.Given as goal
 
 abbrev pub invariant-loop-up : goal.invariant-loop-up

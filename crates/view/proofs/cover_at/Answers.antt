@@ -1,7 +1,6 @@
 use Rattle.bits.specs.Places.{place_len, place_value}
 use Rattle.view.specs.Climb.{no_node}
 use Rattle.view.specs.Standing.{in_at}
-use borrow.Author.Rules.{rules}
 use Rattle.view.proofs.cover_at.Goals as goal
 
 pub climbed-requires : goal.climbed-requires

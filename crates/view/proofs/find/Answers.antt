@@ -1,7 +1,6 @@
 -- `view::find` meets its contract. By the cases of the node on the way.
 use Rattle.view.specs.Descent.{found_at, found_node}
 use mathlib.Core.Path.{sym, ap, ◌∙◌}
-use borrow.Author.Rules.{rules}
 use Rattle.view.proofs.find.Goals as goal
 
 pub returns-in-Absent : goal.returns-in-Absent

@@ -1,9 +1,6 @@
 -- `view::held_child` meets its contract. By the two tests; the sum fits since a child is a node of the pool.
-use Rattle.std.proofs.Common.{ap}
-use borrow.Author.Tests.{not-true, not-false}
 use mathlib.Core.Path.{sym, ◌∙◌}
 use Rattle.view.specs.Standing.{child_unset, child_outside, child_held, child_room}
-use borrow.Author.Rules.{rules}
 use Rattle.view.proofs.held_child.Goals as goal
 
 pub returns-then-not-bit : goal.returns-then-not-bit

@@ -1,9 +1,6 @@
 -- `view::held_value` meets its contract. By the two tests; the sum fits since every value index is below 31 times the nodes.
-use Rattle.std.proofs.Common.{ap}
-use borrow.Author.Tests.{not-true, not-false}
 use mathlib.Core.Path.{sym, ◌∙◌}
 use Rattle.view.specs.Standing.{value_unset, value_outside, value_held, value_room}
-use borrow.Author.Rules.{rules}
 use Rattle.view.proofs.held_value.Goals as goal
 
 pub returns-then-not-bit : goal.returns-then-not-bit

@@ -1,10 +1,7 @@
 -- `view::keeps` meets its contract. By the test of the bit.
-use Rattle.std.proofs.Common.{ap}
 use native.Mathlib.Omega.{arith}
 use mathlib.Core.Path.{sym, ◌∙◌}
-use borrow.Author.Tests.{not-true, not-false}
 use Rattle.view.specs.Kept.{keep_unset, keep_test}
-use borrow.Author.Rules.{rules}
 use Rattle.view.proofs.keeps.Goals as goal
 
 pub returns-then-not-bit : goal.returns-then-not-bit

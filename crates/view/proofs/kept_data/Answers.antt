@@ -2,7 +2,6 @@
 use mathlib.Core.Path.{sym, ap, ◌∙◌}
 use Rattle.view.specs.Standing.{in_at}
 use Rattle.view.specs.Kept.{kept_of, kept_whole, kept_by_places, kept_none}
-use borrow.Author.Rules.{rules}
 use Rattle.view.proofs.kept_data.Goals as goal
 
 pub data_bits-held-requires : goal.data_bits-held-requires

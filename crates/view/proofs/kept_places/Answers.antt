@@ -1,7 +1,6 @@
 -- `view::kept_places` meets its contract. The word of the first b data bits; the measure is the bits left.
 use native.Mathlib.Omega.{arith}
-use Prim.Native.Nat.{◌-◌}
-use Rattle.view.specs.Kept.{Keeping, keeping_start, keeping_small, keeping_on, keeping_end}
+use Rattle.view.specs.Kept.{keeping_start, keeping_small, keeping_on, keeping_end}
 use Rattle.view.proofs.kept_places.Goals as goal
 
 pub loop-b-init : goal.loop-b-init

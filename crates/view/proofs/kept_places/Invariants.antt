@@ -1,7 +1,6 @@
 -- `view::kept_places` meets its contract. The word of the first b data bits; the measure is the bits left.
-use native.Mathlib.Omega.{arith}
 use Prim.Native.Nat.{◌-◌}
-use Rattle.view.specs.Kept.{Keeping, keeping_start, keeping_small, keeping_on, keeping_end}
+use Rattle.view.specs.Kept.{Keeping}
 use Rattle.view.proofs.kept_places.Given as goal
 
 abbrev pub invariant-loop-b : goal.invariant-loop-b

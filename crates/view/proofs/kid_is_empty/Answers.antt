@@ -1,7 +1,6 @@
 -- `view::kid_is_empty` meets its contract. By the cases of the child.
 use mathlib.Core.Path.{◌∙◌}
 use Rattle.view.specs.EmptyViews.{kid_none, kid_in, kid_absent, kid_at_lem}
-use borrow.Author.Rules.{rules}
 use Rattle.view.proofs.kid_is_empty.Goals as goal
 
 pub returns-then-levels-eq0 : goal.returns-then-levels-eq0

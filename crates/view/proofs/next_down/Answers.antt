@@ -2,7 +2,6 @@
 use mathlib.Core.Path.{ap₂, ◌∙◌}
 use Rattle.theory.specs.Sides.{child_in}
 use Rattle.view.specs.Descent.{next_bits_lem}
-use borrow.Author.Rules.{rules}
 use Rattle.view.proofs.next_down.Goals as goal
 
 pub returns : goal.returns

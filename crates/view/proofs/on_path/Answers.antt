@@ -1,7 +1,6 @@
 -- `view::on_path` meets its contract. By the first test.
 use mathlib.Core.Path.{sym, ◌∙◌}
 use Rattle.view.specs.Standing.{on_path_first, on_path_second}
-use borrow.Author.Rules.{rules}
 use Rattle.view.proofs.on_path.Goals as goal
 
 pub returns-then-leads : goal.returns-then-leads

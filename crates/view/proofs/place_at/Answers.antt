@@ -1,8 +1,6 @@
 -- `view::place_at` meets its contract. The table is the numbers of the places in prefix order.
-use native.Mathlib.Omega.{arith}
 use Rattle.defs.specs.Entries.{places}
-use Rattle.view.specs.Numbers.{place_numbered, number_at}
-use borrow.Author.Rules.{rules}
+use Rattle.view.specs.Numbers.{number_at}
 use Rattle.view.proofs.place_at.Goals as goal
 
 pub returns : goal.returns

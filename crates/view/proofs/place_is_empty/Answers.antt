@@ -1,10 +1,7 @@
 -- `view::place_is_empty` meets its contract. At each turn the first c children hold nothing; the measure is the children left.
-use Rattle.std.proofs.Common.{ap}
 use native.Mathlib.Omega.{arith}
 use mathlib.Core.Path.{sym, ◌∙◌}
-use Prim.Native.Nat.{◌-◌}
-use borrow.Author.Tests.{not-true, not-false}
-use Rattle.view.specs.EmptyViews.{Searching, searching_start, searching_on, searching_fails, searching_ends, under_kept}
+use Rattle.view.specs.EmptyViews.{searching_start, searching_on, searching_fails, searching_ends, under_kept}
 use Rattle.view.proofs.place_is_empty.Goals as goal
 
 pub kept_data-requires : goal.kept_data-requires

@@ -1,9 +1,6 @@
 -- `view::place_is_empty` meets its contract. At each turn the first c children hold nothing; the measure is the children left.
-use native.Mathlib.Omega.{arith}
-use mathlib.Core.Path.{sym, ◌∙◌}
 use Prim.Native.Nat.{◌-◌}
-use borrow.Author.Tests.{not-true, not-false}
-use Rattle.view.specs.EmptyViews.{Searching, searching_start, searching_on, searching_fails, searching_ends, under_kept}
+use Rattle.view.specs.EmptyViews.{Searching}
 use Rattle.view.proofs.place_is_empty.Given as goal
 
 abbrev pub invariant-loop-c : goal.invariant-loop-c

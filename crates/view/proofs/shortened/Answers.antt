@@ -1,7 +1,6 @@
 -- `view::shortened` meets its contract. From what the first bits are.
 use mathlib.Core.Path.{refl}
 use Rattle.defs.specs.PrefixLaws.{prefix_eq}
-use borrow.Author.Rules.{rules}
 use Rattle.view.proofs.shortened.Goals as goal
 
 pub returns : goal.returns

@@ -2,7 +2,6 @@
 use native.Mathlib.Omega.{arith}
 use mathlib.Core.Path.{◌∙◌}
 use Rattle.view.specs.Standing.{in_at, value_of_lem}
-use borrow.Author.Rules.{rules}
 use Rattle.view.proofs.value_at.Goals as goal
 
 pub held_value-requires : goal.held_value-requires

@@ -2,7 +2,6 @@
 use native.Mathlib.Omega.{arith}
 use mathlib.Core.Path.{sym, ◌∙◌}
 use Rattle.view.specs.EmptyViews.{known_none, known_at}
-use borrow.Author.Rules.{rules}
 use Rattle.view.proofs.view_is_empty.Goals as goal
 
 pub overflow_sub-prefix : goal.overflow_sub-prefix

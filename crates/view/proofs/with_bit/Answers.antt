@@ -3,7 +3,6 @@ use native.Mathlib.Omega.{arith}
 use mathlib.Core.Path.{ap, ◌∙◌}
 use Prim.Native.Nat.{◌+◌}
 use Rattle.view.specs.Kept.{top_shift, top_fits, on_bit, off_bit}
-use borrow.Author.Rules.{rules}
 use Rattle.view.proofs.with_bit.Goals as goal
 
 pub overflow_add-result : goal.overflow_add-result

@@ -1,7 +1,6 @@
 use native.Mathlib.Omega.{arith}
 use Rattle.walk.specs.Moves as moves
 use Rattle.walk.specs.Ready.{job_of}
-use borrow.Author.Rules.{rules}
 use Rattle.walk.proofs.child_step.Goals as goal
 
 pub returns-then-f-ge60 : goal.returns-then-f-ge60

@@ -1,4 +1,3 @@
-use borrow.Author.Rules.{rules}
 use Rattle.walk.proofs.cover_shown.Goals as goal
 
 pub returns-in-Missing-b : goal.returns-in-Missing-b

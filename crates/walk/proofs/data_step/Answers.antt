@@ -1,7 +1,6 @@
 use native.Mathlib.Omega.{arith}
 use Rattle.walk.specs.Moves as moves
 use Rattle.walk.specs.Ready.{job_of}
-use borrow.Author.Rules.{rules}
 use Rattle.walk.proofs.data_step.Goals as goal
 
 pub returns-in-Nothing : goal.returns-in-Nothing

@@ -1,6 +1,5 @@
 use Rattle.walk.specs.Moves as moves
 use Rattle.walk.specs.Ready.{job_of}
-use borrow.Author.Rules.{rules}
 use Rattle.walk.proofs.down_to.Goals as goal
 
 pub returns-in-Absent-right : goal.returns-in-Absent-right

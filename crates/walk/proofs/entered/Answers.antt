@@ -1,6 +1,5 @@
 use Rattle.walk.specs.Ready.{job_of}
 use Rattle.walk.specs.Maps.{entered_is}
-use borrow.Author.Rules.{rules}
 use Rattle.walk.proofs.entered.Goals as goal
 
 pub returns : goal.returns

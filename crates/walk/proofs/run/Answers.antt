@@ -1,8 +1,6 @@
 use Prim.Native.Nat.{◌+◌}
-use mathlib.Core.Path.{refl}
-use borrow.Author.Rules.{rules}
 use native.Mathlib.Omega.{arith}
-use lib.ListN.{get_or, length, length-take, length-drop}
+use lib.ListN.{length-take, length-drop}
 use Rattle.theory.specs.Steps.{level_rest}
 use Rattle.walk.specs.Loops as loops
 use Rattle.walk.specs.Ready.{job_of}
@@ -63,7 +61,7 @@ pub overflow_add-at : goal.overflow_add-at
 overflow_add-at c = let r = loops.placed_room c.args.writes c.args.out.now _ _ _ _ (level_rest (job_of c.args.op c.args.l.now c.args.r.now c.args.roots) c.args.start) c.loop-n.invariant.beside (loops.run_more (loops.Placed c.args.writes c.args.out.now c.loop-n.out c.loop-n.at c.loop-n.count) (job_of c.args.op c.args.l.now c.args.r.now c.args.roots) (level_rest (job_of c.args.op c.args.l.now c.args.r.now c.args.roots) c.args.start) _ _ c.loop-n.invariant c.loop-n-test.true _ c.step.ensures _ _ c.in-Record.is) c.requires.room in omega (arith, c.put_if-at.ensures.0, c.loop-n.invariant.beside.written.same)
 
 pub overflow_add-count : goal.overflow_add-count
-overflow_add-count c = let r = (loops.run_more (loops.Placed c.args.writes c.args.out.now c.loop-n.out c.loop-n.at c.loop-n.count) (job_of c.args.op c.args.l.now c.args.r.now c.args.roots) (level_rest (job_of c.args.op c.args.l.now c.args.r.now c.args.roots) c.args.start) _ _ c.loop-n.invariant c.loop-n-test.true _ c.step.ensures _ _ c.in-Record.is) in omega (arith, c.loop-n.invariant.beside.counted, c.requires.start_len_bound)
+overflow_add-count c = let r = (loops.run_more (loops.Placed c.args.writes c.args.out.now c.loop-n.out c.loop-n.at c.loop-n.count) (job_of c.args.op c.args.l.now c.args.r.now c.args.roots) (level_rest (job_of c.args.op c.args.l.now c.args.r.now c.args.roots) c.args.start) _ _ c.loop-n.invariant c.loop-n-test.true _ c.step.ensures _ _ c.in-Record.is) in omega (arith, c.loop-n.invariant.beside.counted, c.requires.count_fits)
 
 pub loop-n-smaller-in-Record : goal.loop-n-smaller-in-Record
 loop-n-smaller-in-Record c = loops.fewer_record (loops.Placed c.args.writes c.args.out.now c.loop-n.out c.loop-n.at c.loop-n.count) (job_of c.args.op c.args.l.now c.args.r.now c.args.roots) (level_rest (job_of c.args.op c.args.l.now c.args.r.now c.args.roots) c.args.start) _ _ c.loop-n.invariant c.loop-n-test.true _ c.step.ensures _ _ c.in-Record.is

@@ -1,8 +1,4 @@
-use Prim.Native.Nat.{◌+◌}
-use mathlib.Core.Path.{refl}
-use borrow.Author.Rules.{rules}
-use native.Mathlib.Omega.{arith}
-use lib.ListN.{get_or, length, length-take, length-drop}
+use lib.ListN.{get_or}
 use Rattle.theory.specs.Steps.{level_rest}
 use Rattle.walk.specs.Loops as loops
 use Rattle.walk.specs.Ready.{job_of}

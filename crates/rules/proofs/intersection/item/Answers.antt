@@ -1,4 +1,3 @@
-use borrow.Author.Rules.{rules}
 use Rattle.rules.proofs.intersection.item.Goals as goal
 
 pub returns-in-Is-b : goal.returns-in-Is-b

@@ -1,4 +1,3 @@
-use borrow.Author.Rules.{rules}
 use Rattle.rules.proofs.record.put.Goals as goal
 
 pub returns-in-Left : goal.returns-in-Left

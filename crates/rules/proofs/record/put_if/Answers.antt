@@ -1,7 +1,3 @@
-use mathlib.Core.Path.{◌∙◌, sym, ap}
-use borrow.Author.Rules.{rules}
-use borrow.Author.Tests.{not-true, not-false}
-use native.Mathlib.Omega.{arith}
 use Rattle.theory.specs.Steps.{item_record}
 use Rattle.rules.specs.Records as loops
 use Rattle.rules.proofs.record.put_if.Goals as goal

@@ -1,7 +1,6 @@
 use native.Mathlib.Omega.{arith}
 use lib.ListN.{length-set}
 use Rattle.rules.specs.Records.{six}
-use borrow.Author.Rules.{rules}
 use Rattle.rules.proofs.record.put_words.Goals as goal
 
 pub bounds-out-1 : goal.bounds-out-1

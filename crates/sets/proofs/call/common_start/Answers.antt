@@ -1,6 +1,5 @@
 use native.Mathlib.Omega.{arith}
 use Rattle.sets.specs.Listing as listing
-use borrow.Author.Rules.{rules}
 use Rattle.sets.proofs.call.common_start.Goals as goal
 
 pub at_depth-left-requires : goal.at_depth-left-requires

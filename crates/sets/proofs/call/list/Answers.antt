@@ -1,9 +1,7 @@
 use Rattle.defs.specs.Lists.{Record}
 use mathlib.Core.List.{List}
-use native.Mathlib.Omega.{arith}
 use mathlib.Core.Path.{◌∙◌, sym, ap}
 use Rattle.sets.specs.Listing as listing
-use borrow.Author.Rules.{rules}
 use Rattle.sets.proofs.call.list.Goals as goal
 
 pub returns-then-a-ne0 : goal.returns-then-a-ne0

@@ -2,7 +2,6 @@ use Prim.Native.Nat.{◌+◌}
 use mathlib.Core.Path.{ap₂}
 use Rattle.sets.specs.Listing as listing
 use native.Mathlib.Omega.{arith}
-use borrow.Author.Rules.{rules}
 use Rattle.sets.proofs.call.most_records.Goals as goal
 
 pub overflow_add-result : goal.overflow_add-result

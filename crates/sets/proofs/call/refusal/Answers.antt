@@ -1,6 +1,5 @@
 use mathlib.Core.Path.{◌∙◌}
 use Rattle.sets.specs.Listing as listing
-use borrow.Author.Rules.{rules}
 use Rattle.sets.proofs.call.refusal.Goals as goal
 
 pub returns-then-a-eq1 : goal.returns-then-a-eq1

@@ -1,4 +1,3 @@
-use borrow.Author.Rules.{rules}
 use Rattle.sets.proofs.call.start.Goals as goal
 
 pub returns-in-CoveringDifference : goal.returns-in-CoveringDifference

@@ -1,8 +1,6 @@
 use Rattle.defs.specs.Pool.{ones}
 use mathlib.Core.Path.{◌∙◌, ap}
 use Rattle.sets.specs.Listing as listing
-use native.Mathlib.Omega.{arith}
-use borrow.Author.Rules.{rules}
 use Rattle.sets.proofs.call.values_in.Goals as goal
 
 pub returns : goal.returns

@@ -1,6 +1,4 @@
 use Prim.Native.Nat.{◌-◌}
-use borrow.Author.Rules.{rules}
-use native.Mathlib.Omega.{arith}
 use Rattle.sets.specs.Listing.{side_of}
 use Rattle.sets.specs.Aligned as al
 use Rattle.sets.proofs.covering_difference.align.Given as goal

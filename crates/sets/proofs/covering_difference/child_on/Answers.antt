@@ -1,5 +1,4 @@
 use Rattle.sets.specs.Aligned as al
-use borrow.Author.Rules.{rules}
 use Rattle.sets.proofs.covering_difference.child_on.Goals as goal
 
 pub returns-in-Absent : goal.returns-in-Absent

@@ -5,7 +5,6 @@ use Rattle.view.specs.Descent.{whole_cut}
 use native.Mathlib.Omega.{arith}
 use Rattle.sets.specs.Listing.{side_of}
 use Rattle.sets.specs.Aligned as al
-use borrow.Author.Rules.{rules}
 use Rattle.sets.proofs.covering_difference.down.Goals as goal
 
 pub cover_at-requires : goal.cover_at-requires

@@ -1,6 +1,5 @@
 use native.Mathlib.Omega.{arith}
 use Rattle.view.specs.Descent.{next_bits_lem}
-use borrow.Author.Rules.{rules}
 use Rattle.sets.proofs.covering_difference.next_place.Goals as goal
 
 pub returns : goal.returns

@@ -1,4 +1,3 @@
-use borrow.Author.Rules.{rules}
 use Rattle.sets.proofs.covering_difference.nothing.Goals as goal
 
 pub returns : goal.returns

@@ -4,7 +4,6 @@ use mathlib.Core.Path.{refl}
 use native.Mathlib.Omega.{arith}
 use Rattle.sets.specs.Listing.{carries_none}
 use Rattle.sets.specs.Beginning as beg
-use borrow.Author.Rules.{rules}
 use Rattle.sets.proofs.covering_difference.start.Goals as goal
 
 pub entered-requires : goal.entered-requires

@@ -2,7 +2,6 @@
 use Rattle.defs.specs.declared.Operation.TheVariants.{Union}
 use Rattle.sets.specs.Listing.{side_of, call_passed, passed_left, passed_right, left_short, right_short}
 use Rattle.sets.specs.Equality.{equal_refused, equal_yes, equal_no}
-use borrow.Author.Rules.{rules}
 use Rattle.sets.proofs.equality.equal_keys.Goals as goal
 
 pub returns-then-a-ne0 : goal.returns-then-a-ne0

@@ -1,7 +1,6 @@
 -- `sets::equality::views_equal` meets its contract. The two nodes are those at which a list's walk starts.
 use native.Mathlib.Omega.{arith}
 use Rattle.sets.specs.Equality.{start_short, start_paired, start_equal}
-use borrow.Author.Rules.{rules}
 use Rattle.sets.proofs.equality.views_equal.Goals as goal
 
 pub at_depth-left-requires : goal.at_depth-left-requires

@@ -2,7 +2,7 @@
 use native.Mathlib.Omega.{arith}
 use lib.Pow.{pow_pos}
 use lib.Count.{count_trailing_zeros}
-use Rattle.view.specs.Covered.{Covering, covering_start, covering_bit, covering_there, covering_shift, covering_on, covering_end}
+use Rattle.view.specs.Covered.{covering_start, covering_bit, covering_there, covering_shift, covering_on, covering_end}
 use Rattle.view.proofs.Coverage.from_data.Goals as goal
 
 pub loop-left-init : goal.loop-left-init

@@ -1,8 +1,5 @@
 -- `view::Coverage::from_data` meets its contract. What is covered so far and what the entries left cover make up the whole; the measure is the bits left, as a number.
-use native.Mathlib.Omega.{arith}
-use lib.Pow.{pow_pos}
-use lib.Count.{count_trailing_zeros}
-use Rattle.view.specs.Covered.{Covering, covering_start, covering_bit, covering_there, covering_shift, covering_on, covering_end}
+use Rattle.view.specs.Covered.{Covering}
 use Rattle.view.proofs.Coverage.from_data.Given as goal
 
 abbrev pub invariant-loop-left : goal.invariant-loop-left

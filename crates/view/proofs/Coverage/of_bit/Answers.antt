@@ -1,6 +1,5 @@
 -- `view::Coverage::of_bit` meets its contract. One computed test over the two tables gives their rule at each bit.
 use Rattle.view.specs.Covered.{held_bytes, kid_bytes, bit_covers}
-use borrow.Author.Rules.{rules}
 use Rattle.view.proofs.Coverage.of_bit.Goals as goal
 
 pub returns : goal.returns
