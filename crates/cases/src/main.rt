@@ -1,12 +1,14 @@
 // Runs the calls on stored cases and on pools too large to store, and says how many came out wrong.
 #![tactic(auto)]
 
+ghost use Rattle.std.specs.Prelude.{◌≡◌, length};
+
 mod large;
 mod replay;
 mod scan;
 
 use defs::Prefix;
-use libc::STDOUT_FILENO;
+use std::io;
 
 // A number that was read, and where the text goes on.
 #[derive(Clone, Copy)]
@@ -39,23 +41,30 @@ pub struct Totals {
     pub used: usize,
 }
 
-// A number with words behind it.
-fn say(n: u64, words: &[u8]) {
-    io::print_decimal(STDOUT_FILENO, n);
-    io::write_all(STDOUT_FILENO, words);
+// Room for a part of the input.
+fn large_buffer() -> [u8; 65536]
+    ensures { 65536 ≡ length result }
+{
+    [0; 65536]
 }
 
-fn main() {
+// A number with words behind it, as a line.
+fn say(rt: &impl Print, n: u64, words: &str) -> io::Result<()> {
+    println!(rt; "{n} {words}")
+}
+
+fn main(rt: HostRuntime) -> io::Result<()> {
     if large::all_right() {
-        io::write_all(STDOUT_FILENO, b"the large pools came out right\n");
+        println!(rt; "the large pools came out right")?;
     } else {
-        io::write_all(STDOUT_FILENO, b"the large pools came out WRONG\n");
+        println!(rt; "the large pools came out WRONG")?;
     }
-    let mut space = io::large_buffer();
-    let totals = replay::input(&mut space);
-    say(totals.cases, b" stored cases replayed\n");
-    say(totals.failed, b" of them failed\n");
+    let mut space = large_buffer();
+    let totals = replay::input(&mut rt.stdin(), &mut space)?;
+    say(&rt, totals.cases, "stored cases replayed")?;
+    say(&rt, totals.failed, "of them failed")?;
     if totals.failed != 0 {
-        say(totals.first, b" is the first of these, counted from 1\n");
+        say(&rt, totals.first, "is the first of these, counted from 1")?;
     }
+    Ok(())
 }

@@ -1,7 +1,8 @@
 // The stored cases: each call is made again, and its answer and buffers are held to those stored.
 use crate::{Compared, Side, Totals, scan};
 use defs::{Answer, Prefix};
-use libc::STDIN_FILENO;
+use std::io;
+use std::io::Read;
 
 // A view: its words, which go to a buffer, and its root.
 fn side(text: &[u8], from: usize, into: &mut [u32]) -> Side {
@@ -233,12 +234,17 @@ fn front(buffer: &[u8], n: usize, before: Totals) -> Totals {
     part(&buffer[..n], n < buffer.len(), before)
 }
 
-// More of the input behind the bytes that are kept: how many there are then.
-fn more(buffer: &mut [u8], kept: usize) -> usize {
-    if buffer.len() < kept {
-        return kept;
+// More of the input behind the bytes that are kept, until the buffer is full or the input ends: how many there are then.
+fn more(input: &mut impl Read, buffer: &mut [u8], kept: usize) -> io::Result<usize> {
+    let mut n = kept;
+    while n < buffer.len() {
+        let got = input.read(&mut buffer[n..])?;
+        if got == 0 {
+            break;
+        }
+        n += got;
     }
-    std::num::wrapping_add_usize(kept, io::read_full(STDIN_FILENO, &mut buffer[kept..]))
+    Ok(n)
 }
 
 // A byte to an earlier place.
@@ -255,13 +261,13 @@ fn keep(buffer: &mut [u8], used: usize, n: usize) -> usize {
     while from < n {
         moved(buffer, from, to);
         from += 1;
-        to = std::num::wrapping_add_usize(to, 1);
+        to = to.wrapping_add(1);
     }
     to
 }
 
 // All cases of the standard input, a buffer at a time. The turns are more than any stored list takes.
-pub(crate) fn input(buffer: &mut [u8]) -> Totals {
+pub(crate) fn input(source: &mut impl Read, buffer: &mut [u8]) -> io::Result<Totals> {
     let mut totals = Totals {
         cases: 0,
         failed: 0,
@@ -271,7 +277,7 @@ pub(crate) fn input(buffer: &mut [u8]) -> Totals {
     let mut kept: usize = 0;
     let mut turns: u32 = 1000;
     while 0 < turns {
-        let n = more(buffer, kept);
+        let n = more(source, buffer, kept)?;
         totals = front(buffer, n, totals);
         if n < buffer.len() {
             break;
@@ -279,12 +285,12 @@ pub(crate) fn input(buffer: &mut [u8]) -> Totals {
         kept = keep(buffer, totals.used, n);
         turns -= 1;
     }
-    totals
+    Ok(totals)
 }
 
 // One more case, which one failed first, and how far the text is used.
 fn counted(t: Totals, seen: Compared) -> Totals {
-    let cases = std::num::wrapping_add_u64(t.cases, 1);
+    let cases = t.cases.wrapping_add(1);
     if seen.same {
         return Totals {
             cases,
@@ -295,7 +301,7 @@ fn counted(t: Totals, seen: Compared) -> Totals {
     }
     Totals {
         cases,
-        failed: std::num::wrapping_add_u64(t.failed, 1),
+        failed: t.failed.wrapping_add(1),
         first: if t.failed == 0 { cases } else { t.first },
         used: seen.next,
     }

@@ -1,23 +1,25 @@
 // The text program: a request on standard input, its answer on standard output.
 #![tactic(auto)]
 
-ghost use Rattle.std.specs.Prelude.{◌≡◌, length};
+ghost use Rattle.std.specs.Prelude.{◌≡◌, ◌<◌, ◌≤◌, ℕ, length};
+ghost use Rattle.prefixsets.specs.declared.More.TheVariants as more;
 
-use libc::{STDIN_FILENO, STDOUT_FILENO};
+use std::io;
+use std::io::Read;
 
 // What one more read gives: the number of bytes that there are now, the end of the input, or a failure.
 #[derive(Clone, Copy)]
 pub enum More {
     Now(usize),
     End,
-    Failed,
+    Failed(io::Error),
 }
 
 // The whole input as far as the buffer goes, or a failure.
 #[derive(Clone, Copy)]
 pub enum Input {
     Bytes(usize),
-    Failed,
+    Failed(io::Error),
 }
 
 // One byte more than a good input has, so that a longer one is seen.
@@ -27,68 +29,76 @@ fn input_buffer() -> [u8; 65537]
     [0; 65537]
 }
 
+// Room for any answer.
+fn output_buffer() -> [u8; 65536]
+    ensures { 65536 ≡ length result }
+{
+    [0; 65536]
+}
+
 // One read behind the bytes that are there.
-fn read_more(buffer: &mut [u8], done: usize) -> More {
+fn read_more(input: &mut impl Read, buffer: &mut [u8], done: usize) -> More
+    ensures { (n : ℕ) → result ≡ more.Now n → done < n }
+{
     if buffer.len() < done {
         return More::End;
     }
-    let got = libc::read(STDIN_FILENO, &mut buffer[done..]);
-    if got < 0 {
-        return More::Failed;
+    match input.read(&mut buffer[done..]) {
+        Ok(0) => More::End,
+        Ok(got) => More::Now(done + got),
+        Err(e) => More::Failed(e),
     }
-    if got == 0 {
-        return More::End;
-    }
-    More::Now(std::num::wrapping_add_usize(done, io::count(got, buffer)))
 }
 
 // Reads until the buffer is full or the input ends: input may come in pieces.
-fn read_input(buffer: &mut [u8]) -> Input {
+fn read_input(input: &mut impl Read, buffer: &mut [u8]) -> Input {
     let mut done: usize = 0;
     while done < buffer.len() {
-        match read_more(buffer, done) {
+        match read_more(input, buffer, done) {
             More::Now(n) => {
-                if n <= done {
-                    return Input::Failed;
-                }
                 done = n;
             }
             More::End => {
                 return Input::Bytes(done);
             }
-            More::Failed => {
-                return Input::Failed;
+            More::Failed(e) => {
+                return Input::Failed(e);
             }
         }
     }
     Input::Bytes(done)
 }
 
+// A line on standard error: what failed, and why. Where that cannot be written either, nothing is left to say it on.
+fn fail(rt: &impl Eprint, what: &str, e: io::Error) {
+    let _ = eprintln!(rt; "prefixsets: {what}: {e}");
+}
+
 // Writes the first bytes of a buffer, or says that it cannot.
-fn put(out: &[u8], n: usize) {
+fn put(rt: &(impl Print + Eprint), out: &[u8], n: usize) {
     if out.len() < n {
         return;
     }
-    if !io::write_all(STDOUT_FILENO, &out[..n]) {
-        os::fail(b"prefixsets: standard output");
+    if let Err(e) = rt.write_all(&out[..n]) {
+        fail(rt, "standard output", e);
     }
 }
 
 // Answers the input in a buffer.
-fn reply(buffer: &[u8], n: usize) {
+fn reply(rt: &(impl Print + Eprint), buffer: &[u8], n: usize) {
     if buffer.len() < n {
         return;
     }
-    let mut out = io::large_buffer();
+    let mut out = output_buffer();
     let written = answer::answer(&buffer[..n], &mut out);
-    put(&out, written);
+    put(rt, &out, written);
 }
 
 // A failed read gives no answer at all, and a line on standard error.
-fn main() {
+fn main(rt: HostRuntime) {
     let mut buffer = input_buffer();
-    match read_input(&mut buffer) {
-        Input::Bytes(n) => reply(&buffer, n),
-        Input::Failed => os::fail(b"prefixsets: standard input"),
+    match read_input(&mut rt.stdin(), &mut buffer) {
+        Input::Bytes(n) => reply(&rt, &buffer, n),
+        Input::Failed(e) => fail(&rt, "standard input", e),
     }
 }

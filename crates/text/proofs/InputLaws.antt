@@ -51,10 +51,10 @@ use Rattle.text.proofs.LineLaws.{decimal_below}
 use Rattle.text.proofs.BufferLaws.{back, lent}
 
 -- the count of ones that the machine gives is that of a word's 32 bits
-pub count_ones : (k n : ℕ) → n < 2 ^ k → count_ones n ≡ ones_in k n
+pub ones_are : (k n : ℕ) → n < 2 ^ k → count_ones n ≡ ones_in k n
 unfolding ones_in count_ones
-count_ones zero n h = let z : n ≡ 0 = omega arith in ap count_ones z
-count_ones (suc k) n h = ones_step n ∙ ap (λ (x : ℕ). n % 2 + x) (count_ones k (n / 2) (omega (arith, pow-suc 2 k)))
+ones_are zero n h = let z : n ≡ 0 = omega arith in ap count_ones z
+ones_are (suc k) n h = ones_step n ∙ ap (λ (x : ℕ). n % 2 + x) (ones_are k (n / 2) (omega (arith, pow-suc 2 k)))
 
 -- four words at the front of a buffer
 pub four_words : (l : List ℕ) (a b c d : ℕ) → 4 ≤ length l → set (set (set (set l 0 a) 1 b) 2 c) 3 d ≡ a ∷ b ∷ c ∷ d ∷ drop 4 l
@@ -191,7 +191,7 @@ module _ (input old : List ℕ) (from letter : ℕ) (new : List ℕ) (room at wo
             ap (λ (k : ℕ). side_of letter k child value (drop at input)) (sym (more_room h))
             ∙ ap (λ (x : Node). for_node x (record { words = []; left_over = drop at input }) (λ d c. behind_words (d ∷ c ∷ child ∷ value ∷ []) (side_of letter (room - 1) (child + ones c) (value + ones d) (rest (drop at input))))) (sym e)
             ∙ ap (behind_words four)
-            (ap₂ (λ (u v : ℕ). side_of letter (room - 1) (child + u) (value + v) (rest (drop at input))) (sym (count_ones 32 c small.1)) (sym (count_ones 32 d small.0))
+            (ap₂ (λ (u v : ℕ). side_of letter (room - 1) (child + u) (value + v) (rest (drop at input))) (sym (ones_are 32 c small.1)) (sym (ones_are 32 d small.0))
             ∙ ap (side_of letter (room - 1) (child + count_ones c) (value + count_ones d)) (sym q))
 
 -- the four lines at the top

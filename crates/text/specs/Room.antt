@@ -1,5 +1,5 @@
 -- How long an output can be: 512 records and the E line fit 65,536 bytes, whatever the words are.
-use Rattle.std.specs.Prelude.{◌≡◌, refl, List, [], ◌∷◌, ◌++◌, ℕ, zero, suc, ◌+◌, ◌*◌, ◌/◌, ◌%◌, ◌≤◌, ltb, eqb, length, get_or, drop}
+use Rattle.std.specs.Prelude.{◌≡◌, refl, List, [], ◌∷◌, ◌++◌, ℕ, zero, suc, ◌*◌, ◌/◌, ◌%◌, ◌≤◌, ltb, eqb, length, get_or, drop}
 use Rattle.std.proofs.Common.{◌∙◌, ap, arith, length-append, take_all}
 use Rattle.defs.specs.Lists.{missing, no_cover, record_words}
 use Rattle.defs.specs.Lemmas.{split}

@@ -10,8 +10,8 @@ use crate::{Asked, Head, Node, Number, Part, Request, Root, Said, Top};
 
 // Where line k starts, from 0.
 fn start_of(input: &[u8], k: usize) -> usize
-    ensures input_value { drop result input.now ≡ skip k input.now }
-    ensures upper_bound { result ≤ length input.now }
+    ensures skips { drop result input.now ≡ skip k input.now }
+    ensures within { result ≤ length input.now }
 {
     let mut at = 0;
     let mut i = 0;

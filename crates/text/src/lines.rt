@@ -13,7 +13,7 @@ use defs::{Operation, Prefix};
 fn line_end(input: &[u8], at: usize) -> usize
     requires { at ≤ length input.now }
     ensures value { result ≡ at + line_end (drop at input.now) }
-    ensures upper_bound { result ≤ length input.now }
+    ensures within { result ≤ length input.now }
 {
     let mut i = at;
     while i < input.len() {
@@ -40,8 +40,8 @@ pub(crate) fn line(input: &[u8], at: usize) -> &[u8]
 // Where the line after it starts.
 pub(crate) fn after(input: &[u8], at: usize) -> usize
     requires { at ≤ length input.now }
-    ensures input_value { drop result input.now ≡ rest (drop at input.now) }
-    ensures upper_bound { result ≤ length input.now }
+    ensures next_line { drop result input.now ≡ rest (drop at input.now) }
+    ensures within { result ≤ length input.now }
 {
     let end = line_end(input, at);
     if end < input.len() { end + 1 } else { end }
@@ -152,8 +152,8 @@ pub(crate) fn root_line(line: &[u8], letter: u8) -> Root
 
 // A node from its two bitmaps.
 fn node(d: Number, c: Number) -> Node
-    requires below { Below (2 ^ 32) d }
-    requires below_2 { Below (2 ^ 32) c }
+    requires data_small { Below (2 ^ 32) d }
+    requires children_small { Below (2 ^ 32) c }
     ensures { result ≡ node_of d c }
 {
     let Number::Is(data_bits) = d else {

@@ -1,5 +1,4 @@
 use Rattle.answer.specs.Replies.{pools_inside, good_wrote, bad_wrote}
-use borrow.Author.Rules.{rules}
 use Rattle.answer.proofs.answer.Goals as goal
 
 pub said-a-requires : goal.said-a-requires

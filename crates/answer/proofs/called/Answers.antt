@@ -1,7 +1,6 @@
 use Rattle.answer.specs.Answering.{leaves}
 use Rattle.defs.specs.declared.Answer.{Answer}
 use mathlib.Core.Path.{ap}
-use borrow.Author.Rules.{rules}
 use Rattle.answer.proofs.called.Goals as goal
 
 pub returns-in-Listing : goal.returns-in-Listing

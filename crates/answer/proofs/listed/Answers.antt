@@ -1,4 +1,3 @@
-use borrow.Author.Rules.{rules}
 use Rattle.answer.proofs.listed.Goals as goal
 
 pub returns-in-Union : goal.returns-in-Union

@@ -1,7 +1,6 @@
 use native.Mathlib.Omega.{arith}
 use lib.Seq.{length-take-le}
 use mathlib.Core.Path.{sym}
-use borrow.Author.Rules.{rules}
 use Rattle.answer.proofs.said.Goals as goal
 
 pub slice_bounds-called-end : goal.slice_bounds-called-end

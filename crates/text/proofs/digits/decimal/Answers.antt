@@ -1,4 +1,3 @@
-use borrow.Author.Rules.{rules}
 use mathlib.Core.Path.{sym, ◌∙◌}
 use Rattle.text.proofs.NumberLaws.{decimal_none, decimal_zeros, decimal_plain}
 use Rattle.text.proofs.digits.decimal.Goals as goal

@@ -1,4 +1,3 @@
-use borrow.Author.Rules.{rules}
 use Rattle.text.proofs.NumberLaws.{digit_below, digit_decimal, digit_between, digit_letter, digit_above}
 use Rattle.text.proofs.digits.digit.Goals as goal
 

@@ -1,4 +1,3 @@
-use borrow.Author.Rules.{rules}
 use mathlib.Core.Path.{◌∙◌}
 use Rattle.text.proofs.NumberLaws.{hex_fits, hex_not}
 use Rattle.text.proofs.digits.hex.Goals as goal

@@ -1,4 +1,3 @@
-use borrow.Author.Rules.{rules}
 use mathlib.Core.Path.{sym, ◌∙◌}
 use Rattle.text.proofs.NumberLaws.{behind_none, behind_one, behind_other}
 use Rattle.text.proofs.digits.more.Goals as goal

@@ -1,9 +1,6 @@
-use borrow.Author.Rules.{rules}
 use mathlib.Core.Path.{refl, sym, ◌∙◌}
-use Prim.Native.Nat.{◌-◌}
-use lib.ListN.{length}
 use native.Mathlib.Omega.{arith}
-use Rattle.text.proofs.NumberLaws.{Reading, read_on, read_bad, read_all}
+use Rattle.text.proofs.NumberLaws.{read_on, read_bad, read_all}
 use Rattle.text.proofs.digits.numeral.Goals as goal
 
 pub loop-i-init : goal.loop-i-init

@@ -1,5 +1,5 @@
 use native.Mathlib.Omega.{arith}
-use Rattle.text.proofs.SpellLaws.{Placing, place_start, place_on, place_all}
+use Rattle.text.proofs.SpellLaws.{place_start, place_on, place_all}
 use Rattle.text.proofs.digits.places.Goals as goal
 
 pub loop-left-init : goal.loop-left-init

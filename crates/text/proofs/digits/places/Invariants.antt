@@ -1,5 +1,4 @@
-use native.Mathlib.Omega.{arith}
-use Rattle.text.proofs.SpellLaws.{Placing, place_start, place_on, place_all}
+use Rattle.text.proofs.SpellLaws.{Placing}
 use Rattle.text.proofs.digits.places.Given as goal
 
 abbrev pub invariant-loop-left : goal.invariant-loop-left

@@ -1,4 +1,3 @@
-use borrow.Author.Rules.{rules}
 use native.Mathlib.Omega.{arith}
 use Rattle.text.proofs.NumberLaws.{too_large, over_limit, in_limit, small_enough}
 use Rattle.text.proofs.digits.shifted.Goals as goal

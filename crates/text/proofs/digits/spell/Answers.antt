@@ -1,6 +1,5 @@
-use borrow.Author.Rules.{rules}
 use native.Mathlib.Omega.{arith}
-use Rattle.text.proofs.SpellLaws.{Spelling, spell_start, spell_on, spell_all, digit_small}
+use Rattle.text.proofs.SpellLaws.{spell_start, spell_on, spell_all, digit_small}
 use Rattle.text.proofs.digits.spell.Goals as goal
 
 pub loop-i-init : goal.loop-i-init

@@ -1,6 +1,4 @@
-use borrow.Author.Rules.{rules}
-use native.Mathlib.Omega.{arith}
-use Rattle.text.proofs.SpellLaws.{Spelling, spell_start, spell_on, spell_all, digit_small}
+use Rattle.text.proofs.SpellLaws.{Spelling}
 use Rattle.text.proofs.digits.spell.Given as goal
 
 abbrev pub invariant-loop-i : goal.invariant-loop-i

@@ -1,4 +1,3 @@
-use borrow.Author.Rules.{rules}
 use native.Mathlib.Omega.{arith}
 use Rattle.text.proofs.LineLaws.{below_is}
 use Rattle.text.proofs.input.head.Goals as goal

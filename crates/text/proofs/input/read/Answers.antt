@@ -1,4 +1,3 @@
-use borrow.Author.Rules.{rules}
 use mathlib.Core.Path.{sym, ◌∙◌}
 use Rattle.text.proofs.InputLaws.{read_too_long, read_top}
 use Rattle.text.proofs.input.read.Goals as goal

@@ -1,9 +1,8 @@
-use borrow.Author.Rules.{rules}
 use mathlib.Core.Path.{sym, ◌∙◌, ap}
 use native.Mathlib.Omega.{arith}
 use lib.ListN.{length-drop}
 use Rattle.text.specs.Input.{node_line}
-use Rattle.text.proofs.InputLaws.{Filling, fill_start, fill_no_room, fill_bad, fill_on, child_more, value_more}
+use Rattle.text.proofs.InputLaws.{fill_start, fill_no_room, fill_bad, fill_on, child_more, value_more}
 use Rattle.text.proofs.BufferLaws.{lent}
 use Rattle.text.proofs.input.side.Goals as goal
 
@@ -41,7 +40,7 @@ pub after-at-requires : goal.after-at-requires
 after-at-requires c = c.loop-room.invariant.within
 
 pub loop-room-preserved : goal.loop-room-preserved
-loop-room-preserved c = fill_on _ _ _ _ _ _ _ _ _ _ c.loop-room.invariant _ _ _ c.loop-room-test.true (sym c.in-Is.is ∙ c.node_line.ensures ∙ ap (node_line _) c.line.ensures) _ c.put_node.ensures c.after-at.ensures.0 c.after-at.ensures.1
+loop-room-preserved c = fill_on _ _ _ _ _ _ _ _ _ _ c.loop-room.invariant _ _ _ c.loop-room-test.true (sym c.in-Is.is ∙ c.node_line.ensures ∙ ap (node_line _) c.line.ensures) _ c.put_node.ensures c.after-at.ensures.next_line c.after-at.ensures.within
 
 pub returns : goal.returns
 returns c = fill_no_room _ _ _ _ _ _ _ _ _ _ c.loop-room.invariant c.loop-room-test.false

@@ -1,8 +1,5 @@
-use borrow.Author.Rules.{rules}
-use mathlib.Core.Path.{refl}
 use Prim.Native.Nat.{◌-◌}
-use native.Mathlib.Omega.{arith}
-use Rattle.text.proofs.InputLaws.{Skipping, skip_on, skip_all}
+use Rattle.text.proofs.InputLaws.{Skipping}
 use Rattle.text.proofs.input.start_of.Given as goal
 
 abbrev pub invariant-loop-i : goal.invariant-loop-i

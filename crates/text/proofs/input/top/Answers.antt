@@ -1,4 +1,3 @@
-use borrow.Author.Rules.{rules}
 use mathlib.Core.Path.{◌∙◌}
 use Rattle.text.proofs.InputLaws.{top_read, width_below}
 use Rattle.text.proofs.input.top.Goals as goal

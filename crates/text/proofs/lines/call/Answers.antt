@@ -1,4 +1,3 @@
-use borrow.Author.Rules.{rules}
 use mathlib.Core.Path.{sym, ◌∙◌}
 use Rattle.text.proofs.LineLaws.{call_1, call_2, call_3, call_4, call_5, call_6, call_none}
 use Rattle.text.proofs.lines.call.Goals as goal

@@ -1,9 +1,6 @@
-use borrow.Author.Rules.{rules}
 use mathlib.Core.Path.{refl}
-use Prim.Native.Nat.{◌-◌}
-use lib.ListN.{length}
 use native.Mathlib.Omega.{arith}
-use Rattle.text.proofs.LineLaws.{Same, same_lengths, same_on, same_not, same_all}
+use Rattle.text.proofs.LineLaws.{same_lengths, same_on, same_not, same_all}
 use Rattle.text.proofs.lines.same.Goals as goal
 
 pub returns-then-a-b : goal.returns-then-a-b

@@ -1,8 +1,6 @@
-use borrow.Author.Rules.{rules}
 use mathlib.Core.Path.{refl}
-use Prim.Native.Nat.{◌-◌}
 use native.Mathlib.Omega.{arith}
-use Rattle.text.proofs.BufferLaws.{Copying, copy_length, copy_on, copy_all}
+use Rattle.text.proofs.BufferLaws.{copy_length, copy_on, copy_all}
 use Rattle.text.proofs.output.put.Goals as goal
 
 pub loop-i-init : goal.loop-i-init

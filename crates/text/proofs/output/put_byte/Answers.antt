@@ -1,4 +1,3 @@
-use borrow.Author.Rules.{rules}
 use Rattle.text.proofs.BufferLaws.{wrote_none, wrote_one}
 use Rattle.text.proofs.output.put_byte.Goals as goal
 

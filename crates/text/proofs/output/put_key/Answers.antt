@@ -1,4 +1,3 @@
-use borrow.Author.Rules.{rules}
 use mathlib.Core.Path.{sym}
 use lib.Seq.{length-take-le}
 use native.Mathlib.Omega.{arith}
@@ -7,7 +6,7 @@ use Rattle.text.proofs.BufferLaws.{wrote_next, wrote_is}
 use Rattle.text.proofs.output.put_key.Goals as goal
 
 pub slice_bounds-put-end : goal.slice_bounds-put-end
-slice_bounds-put-end c = sym (length-take-le 16 c.spell.new.1.1.1.0 (omega (arith, c.spell.auto.1.1.1.0)))
+slice_bounds-put-end c = sym (length-take-le 16 c.spell.new.out (omega arith))
 
 pub returns : goal.returns
 unfolding hex_text

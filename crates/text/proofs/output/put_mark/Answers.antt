@@ -1,4 +1,3 @@
-use borrow.Author.Rules.{rules}
 use borrow.Author.Tests.{eq-eqb, ne_eqb}
 use Rattle.text.proofs.BufferLaws.{wrote_is}
 use Rattle.text.proofs.output.put_mark.Goals as goal

@@ -1,4 +1,3 @@
-use borrow.Author.Rules.{rules}
 use mathlib.Core.Path.{sym, ◌∙◌, ap}
 use lib.Seq.{length-take-le}
 use native.Mathlib.Omega.{arith}
@@ -7,7 +6,7 @@ use Rattle.text.proofs.BufferLaws.{wrote_next, wrote_is}
 use Rattle.text.proofs.output.put_number.Goals as goal
 
 pub slice_bounds-put-end : goal.slice_bounds-put-end
-slice_bounds-put-end c = sym (length-take-le c.places-k.result c.spell.new.1.1.1.0 (omega (arith, c.spell.auto.1.1.1.0, c.places-k.ensures.1)))
+slice_bounds-put-end c = sym (length-take-le c.places-k.result c.spell.new.out (omega (arith, c.places-k.ensures.1)))
 
 pub returns : goal.returns
 returns c = wrote_next _ _ _ _ c.put_byte-at.ensures _ _ _ (wrote_is c.put.ensures (c.spell.ensures ∙ ap (λ k. digits 10 k c.args.n) c.places-k.ensures.0))

@@ -1,4 +1,3 @@
-use borrow.Author.Rules.{rules}
 use Rattle.text.proofs.BufferLaws.{wrote_next}
 use Rattle.text.proofs.output.put_record.Goals as goal
 

@@ -1,7 +1,6 @@
-use borrow.Author.Rules.{rules}
 use lib.ListN.{length-drop, length-take}
 use native.Mathlib.Omega.{arith}
-use Rattle.text.proofs.OutputLaws.{Showing, show_start, show_length, show_within, show_over, show_room, show_on}
+use Rattle.text.proofs.OutputLaws.{show_start, show_within, show_over, show_room, show_on}
 use Rattle.text.proofs.output.put_records.Goals as goal
 
 pub loop-left-init : goal.loop-left-init

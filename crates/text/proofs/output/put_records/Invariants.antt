@@ -1,7 +1,4 @@
-use borrow.Author.Rules.{rules}
-use lib.ListN.{length-drop, length-take}
-use native.Mathlib.Omega.{arith}
-use Rattle.text.proofs.OutputLaws.{Showing, show_start, show_length, show_within, show_over, show_room, show_on}
+use Rattle.text.proofs.OutputLaws.{Showing}
 use Rattle.text.proofs.output.put_records.Given as goal
 
 abbrev pub invariant-loop-left : goal.invariant-loop-left

@@ -1,4 +1,4 @@
-use borrow.Author.Rules.{rules}
+use native.Mathlib.Omega.{arith}
 use Rattle.text.proofs.OutputLaws.{marked}
 use Rattle.text.proofs.BufferLaws.{wrote_within, wrote_next, wrote_fits}
 use Rattle.text.proofs.output.put_values.Goals as goal
@@ -10,7 +10,7 @@ pub slice_bounds-put_mark-start : goal.slice_bounds-put_mark-start
 slice_bounds-put_mark-start c = wrote_within _ _ _ _ c.put_mark-a.ensures
 
 pub overflow_add-b : goal.overflow_add-b
-overflow_add-b c = wrote_fits (wrote_next _ _ _ _ c.put_mark-a.ensures _ _ _ c.put_mark.ensures) c.before.before.before.before.before.before.before.before.before.before.before.well-formed.1.1.1.0.0
+overflow_add-b c = wrote_fits (wrote_next _ _ _ _ c.put_mark-a.ensures _ _ _ c.put_mark.ensures) (omega arith)
 
 pub slice_bounds-put_mark-count-2 : goal.slice_bounds-put_mark-count-2
 slice_bounds-put_mark-count-2 c = wrote_within _ _ _ _ (wrote_next _ _ _ _ c.put_mark-a.ensures _ _ _ c.put_mark.ensures)
@@ -19,7 +19,7 @@ pub slice_bounds-put_mark-start-2 : goal.slice_bounds-put_mark-start-2
 slice_bounds-put_mark-start-2 c = wrote_within _ _ _ _ (wrote_next _ _ _ _ c.put_mark-a.ensures _ _ _ c.put_mark.ensures)
 
 pub overflow_add-c : goal.overflow_add-c
-overflow_add-c c = wrote_fits (wrote_next _ _ _ _ (wrote_next _ _ _ _ c.put_mark-a.ensures _ _ _ c.put_mark.ensures) _ _ _ c.put_mark-2.ensures) c.before.before.before.before.before.before.before.before.before.before.before.before.before.before.before.well-formed.1.1.1.0.0
+overflow_add-c c = wrote_fits (wrote_next _ _ _ _ (wrote_next _ _ _ _ c.put_mark-a.ensures _ _ _ c.put_mark.ensures) _ _ _ c.put_mark-2.ensures) (omega arith)
 
 pub slice_bounds-put_byte-count : goal.slice_bounds-put_byte-count
 slice_bounds-put_byte-count c = wrote_within _ _ _ _ (wrote_next _ _ _ _ (wrote_next _ _ _ _ c.put_mark-a.ensures _ _ _ c.put_mark.ensures) _ _ _ c.put_mark-2.ensures)
@@ -31,4 +31,4 @@ pub returns : goal.returns
 returns c = let a = c.args in wrote_next _ _ _ _ (wrote_next _ _ _ _ (wrote_next _ _ _ _ (marked _ _ a.left c.missing_value-no_value.ensures c.put_mark-a.ensures) _ _ _ (marked _ _ a.right c.missing_value-no_value.ensures c.put_mark.ensures)) _ _ _ (marked _ _ a.cover c.missing_cover-no_cover.ensures c.put_mark-2.ensures)) _ _ _ c.put_byte.ensures
 
 pub overflow_add-result : goal.overflow_add-result
-overflow_add-result c = wrote_fits (returns c) c.before.before.before.before.before.before.before.before.before.before.before.before.before.before.before.before.before.before.before.well-formed.1.1.1.0.0
+overflow_add-result c = wrote_fits (returns c) (omega arith)
