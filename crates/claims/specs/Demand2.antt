@@ -14,14 +14,15 @@ use Rattle.defs.specs.Lists.{Record, value_of, no_cover, find, is_in, is_led, re
 use Rattle.defs.specs.Outcome.{Side, entries_of}
 use Rattle.defs.specs.Lemmas.{All}
 use Rattle.defs.specs.OrderLaws.{Ascends, among}
-use Rattle.defs.specs.EntryLaws.{view_ascends}
-use Rattle.defs.specs.ListLaws.{prefix_of, records_ascend}
+use Rattle.defs.proofs.EntryLaws.{view_ascends}
+use Rattle.defs.specs.ListLaws.{prefix_of}
+use Rattle.defs.proofs.ListLaws.{records_ascend}
 use Rattle.tidied.specs.ListFacts.{keep_ext}
 use Rattle.claims.specs.Terms.{WellFormed, HasRecord, HasEntry, HasLeading, says, tag_of, without_cover, CoveringUnionSays}
 use Rattle.claims.specs.Members.{kept_members, leads_alike, list_prefixes_lem, members, all_member, in_either, in_left, entry_says, entry_of, entry_not, not_entry, led_not, not_led}
 use Rattle.claims.specs.Says.{find_self, find_none, records_say, tags, values, tags_both, tags_left, union_records, view_whole}
 use Rattle.claims.specs.Filters.{only_records, union_of, intersection_of, difference_of, covering_difference_of}
-use Rattle.claims.specs.Marks.{values_low, lengths_low, plain_marks, union_marks, union_covers}
+use Rattle.claims.specs.Marks.{low_view, lengths_low, plain_marks, union_marks, union_covers}
 
 -- ---- Views
 -- A view holds exactly the entries of its pool that its root leads.
@@ -131,7 +132,7 @@ module _ (l r : Side) where
 -- ---- The marks are never mistaken
 -- In a well-formed pool every value of a view is below 31 * 65,536, so none is the mark 4294967295.
 pub values_below_mark : (width : ℕ) (s : Side) → WellFormed width s.pool → All (λ e. e.value < 31 * 65536) (entries_of s)
-values_below_mark width s h = values_low width s.pool s.root h
+values_below_mark width s h = low_view width s.pool s.root h
 
 -- In any pool no entry of a view is longer than 64, so no length is the mark 255.
 pub lengths_below_mark : (s : Side) → All (λ e. e.at.len ≤ 64) (entries_of s)
@@ -153,7 +154,7 @@ pub covering_union_cover_marks : (l r : Side) → let L = entries_of l in let R 
     All (λ x. (x.tag ≡ 3 → x.cover ≡ 255)
     × (x.tag ≡ 1 → (x.cover ≡ 255) ↔ (HasLeading (prefix_of x) R → ⊥))
     × (x.tag ≡ 2 → (x.cover ≡ 255) ↔ (HasLeading (prefix_of x) L → ⊥))) (records_of CoveringUnion L R)
-covering_union_cover_marks l r = union_covers (entries_of l) (entries_of r) (view_ascends l.pool l.root) (lengths_below_mark l) (lengths_below_mark r)
+covering_union_cover_marks l r = union_covers (entries_of l) (entries_of r) (view_ascends l.pool l.root) (lengths_low l.pool l.root) (lengths_low r.pool r.root)
 
 -- ---- D1 to D4 are maps and filters of D5's records
 module _ (l r : Side) where
@@ -173,4 +174,4 @@ module _ (l r : Side) where
   pub covering_difference_from : records_of CoveringDifference (entries_of l) (entries_of r)
       ≡ keep (λ x. eqb x.tag 1 && eqb x.cover 255) (records_of CoveringUnion (entries_of l) (entries_of r))
   covering_difference_from =
-      covering_difference_of (entries_of l) (entries_of r) (view_ascends l.pool l.root) (view_ascends r.pool r.root) (lengths_below_mark r)
+      covering_difference_of (entries_of l) (entries_of r) (view_ascends l.pool l.root) (view_ascends r.pool r.root) (lengths_low r.pool r.root)

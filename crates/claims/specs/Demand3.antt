@@ -1,5 +1,5 @@
 -- Demand 3: what tidying promises, D7, and how key equality, D6, goes with it (document 01, "Views and the seven answers").
-use Rattle.std.specs.Prelude.{◌≡◌, true, List, [], ◌∷◌, ◌++◌, map, ◌↔◌, ℕ, ◌*◌, ◌/◌, ◌≤◌, ◌<◌, length, get_or, drop}
+use Rattle.std.specs.Prelude.{Bool, ◌≡◌, true, List, [], ◌∷◌, ◌++◌, map, ◌↔◌, ℕ, ◌*◌, ◌/◌, ◌≤◌, ◌<◌, length, get_or, drop}
 use Rattle.std.proofs.Common.{sym, ◌∙◌, ap, arith}
 use Rattle.defs.specs.declared.Prefix.{Prefix}
 use Rattle.defs.specs.declared.Answer.{Answer}
@@ -10,7 +10,7 @@ use Rattle.defs.specs.Entries.{Entry, all_entries, view, prefixes}
 use Rattle.defs.specs.Lists.{same_keys}
 use Rattle.defs.specs.Tidy.{is_under, nodes_of, tidy_pool, tidy_values}
 use Rattle.defs.specs.Outcome.{Side, answer, entries_of, equal_outcome, tidy_outcome}
-use Rattle.defs.specs.EntryLaws.{view_ascends}
+use Rattle.defs.proofs.EntryLaws.{view_ascends}
 use Rattle.tidied.specs.Demand3 as tidied
 use Rattle.claims.specs.Terms.{GoodWidth, WellFormed, HasEntry, tidy_nodes, tidy_entries}
 use Rattle.claims.specs.Demand1.{equal_0, tidy_0, tidy_done, tidy_done_values}
@@ -107,7 +107,7 @@ module _ (width : ℕ) (l r : Side) (good : GoodWidth width) (well-l : WellForme
 
   -- Two empty views, at whatever roots, are answered with 1.
   pub equal_empty : entries_of l ≡ [] → entries_of r ≡ [] → equal_outcome width l r ≡ answer 0 1 0
-  equal_empty e f = equal_yes.1 (empty_views l r e f).1
+  equal_empty e f = done ∙ ap (λ (b : Bool). answer 0 (if b then 1 else 0) 0) (empty_views l r e f).0
 
 module _ (width : ℕ) (s : Side) (out values : List ℕ) (good : GoodWidth width) (well : WellFormed width s.pool) (root : s.root.len ≤ width) where
   -- Where there is room, tidying answers the number of nodes, and leaves the tidy pool and the value list at the front of its buffers.

@@ -9,7 +9,8 @@ use Rattle.defs.specs.Lists.{is_in, same_keys}
 use Rattle.defs.specs.Tidy.{data_prefixes, child_prefixes, nodes_of, tidy_pool, tidy_values}
 use Rattle.defs.specs.Outcome.{answer}
 use Rattle.defs.specs.Lemmas.{split, not_both, is_false}
-use Rattle.defs.specs.OrderLaws.{Ascends, ascends_unique}
+use Rattle.defs.specs.OrderLaws.{Ascends}
+use Rattle.defs.proofs.OrderLaws.{ascends_unique}
 use Rattle.tidied.specs.Same.{here_same, keys_prefixes, prefixes_keys}
 use Rattle.claims.specs.Terms.{HasEntry}
 use Rattle.claims.specs.Members.{among_prefixes, entry_says, entry_of}

@@ -11,8 +11,10 @@ use Rattle.defs.specs.Basics.{keep}
 use Rattle.defs.specs.Entries.{Entry, prefixes}
 use Rattle.defs.specs.Lists.{Record, no_cover, plain, covered, find, is_in, is_led, longest, all_of, records_of}
 use Rattle.defs.specs.Lemmas.{All, nil, more, split, not_both, is_false, and_left, and_right, all_imp, map_map, map_ext, map_on, keep_map}
-use Rattle.defs.specs.OrderLaws.{Ascends, among, merge_ascends, ascends_keep, ascends_unique, among_keep}
-use Rattle.defs.specs.ListLaws.{prefix_of, records_ascend}
+use Rattle.defs.specs.OrderLaws.{Ascends, among, among_keep}
+use Rattle.defs.proofs.OrderLaws.{merge_ascends, ascends_keep, ascends_unique}
+use Rattle.defs.specs.ListLaws.{prefix_of}
+use Rattle.defs.proofs.ListLaws.{records_ascend}
 use Rattle.claims.specs.Terms.{HasRecord, says, tag_of, without_cover}
 use Rattle.claims.specs.Members.{record_says, record_of_lem, map_id, list_prefixes, list_prefixes_lem, belongs, members}
 use Rattle.claims.specs.Says.{has, has_find, has_none, find_none, led_in, own, says_tag, records_say}

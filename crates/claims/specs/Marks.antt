@@ -17,7 +17,7 @@ use Rattle.defs.specs.Check.{pool_limit, fault_of}
 use Rattle.defs.specs.Lists.{Record, missing, no_cover, value_of, cover_of, covered, find, is_in, is_led, longest, records_of}
 use Rattle.defs.specs.Lemmas.{All, nil, more, split, not_both, is_false, all_imp, all_both, all_append, all_keep, all_unmap, each_append}
 use Rattle.defs.specs.OrderLaws.{Ascends}
-use Rattle.defs.specs.EntryLaws.{view_real}
+use Rattle.defs.proofs.EntryLaws.{view_real}
 use Rattle.defs.specs.ListLaws.{prefix_of}
 use Rattle.pool.specs.Sound.{Formed, formed, values_before, values_small, child_node, value_node}
 use Rattle.claims.specs.Terms.{HasEntry, HasLeading}
@@ -57,12 +57,23 @@ module _ (width : ℕ) (w : List ℕ) (ok : Formed width w) where
       split (bit c (child_of w i)) (λ b. rw b (low_entries levels _ (deeper p 5 c) (child_node width w ok i c h l b).0)) (λ b. rw b nil))
       5 0 0 refl (lit< tt)
 
--- in a well-formed pool every value of a view is below 31 * 65,536, so it is not the mark
-pub values_low : (width : ℕ) (w : List ℕ) (root : Prefix) → (fault_of width w).number ≡ 0 → All (λ e. e.value < 31 * pool_limit) (view w root)
-values_low width w root h =
+-- a value below all marks, and a length below all marks
+abbrev pub LowValue : Entry → Type 0
+LowValue e = e.value < 31 * pool_limit
+
+abbrev pub LowLength : Entry → Type 0
+LowLength e = e.at.len ≤ 64
+
+-- in a well-formed pool every value of a view is below all marks
+pub low_view : (width : ℕ) (w : List ℕ) (root : Prefix) → (fault_of width w).number ≡ 0 → All LowValue (view w root)
+low_view width w root h =
     let f = formed width w h in
     let s = values_small width w f (node_count w) (omega arith) in
     all_imp (λ e l. omega (arith, f.most)) (all_keep (λ e. leads root e.at) (low_entries width w f 13 0 top f.some))
+
+-- in a well-formed pool every value of a view is below 31 * 65,536, so it is not the mark
+pub values_low : (width : ℕ) (w : List ℕ) (root : Prefix) → (fault_of width w).number ≡ 0 → All (λ e. e.value < 31 * pool_limit) (view w root)
+values_low width w root h = all_imp (λ e l. omega (arith, l)) (low_view width w root h)
 
 -- no entry of a view is longer than 64, so its length is not the mark
 pub lengths_low : (w : List ℕ) (root : Prefix) → All (λ e. e.at.len ≤ 64) (view w root)
@@ -73,13 +84,6 @@ lengths_low w root = all_imp (λ e h. h.1) (all_unmap (λ (e : Entry). e.at) (vi
 abbrev pub Holds : (Entry → Type 0) → Option Entry → Type 0
 Holds P none = Unit {0}
 Holds P (some e) = P e
-
--- a value below all marks, and a length below all marks
-abbrev pub LowValue : Entry → Type 0
-LowValue e = e.value < 31 * pool_limit
-
-abbrev pub LowLength : Entry → Type 0
-LowLength e = e.at.len ≤ 64
 
 module _ {P : Entry → Type 0} (p : Prefix) where
   pub find_holds : {es : List Entry} → All P es → Holds P (find p es)

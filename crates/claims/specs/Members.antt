@@ -14,7 +14,8 @@ use Rattle.defs.specs.Entries.{Entry, prefixes}
 use Rattle.defs.specs.Lists.{Record, plain, covered, left_only, find, is_in, is_led, longest, all_of, records_of}
 use Rattle.defs.specs.Lemmas.{All, nil, more, split, not_both, is_false, and_left, and_right, all_kept, map_map, map_ext, keep_map}
 use Rattle.defs.specs.PrefixLaws.{same_self, same_says}
-use Rattle.defs.specs.OrderLaws.{among, among_merge, among_keep}
+use Rattle.defs.specs.OrderLaws.{among, among_keep}
+use Rattle.defs.proofs.OrderLaws.{among_merge}
 use Rattle.defs.specs.ListLaws.{prefix_of, prefix_plain, prefix_covered}
 use Rattle.tidied.specs.ListFacts.{any_map}
 use Rattle.claims.specs.Terms.{HasRecord, HasEntry, HasLeading}

@@ -11,10 +11,12 @@ use Rattle.defs.specs.Prefix.{leads, same}
 use Rattle.defs.specs.Entries.{Entry, prefixes, view}
 use Rattle.defs.specs.Lists.{Record, value_of, no_cover, plain, covered, left_only, find, is_in, is_led, longest, all_of, records_of}
 use Rattle.defs.specs.Lemmas.{All, nil, more, split, not_both, is_false, and_left, and_right, all_imp, all_both, all_true, all_map, all_unmap, all_keep, all_kept}
-use Rattle.defs.specs.PrefixLaws.{Whole, same_self, same_says, before_irrefl, leads_self}
+use Rattle.defs.specs.PrefixLaws.{Whole, same_self, same_says}
+use Rattle.defs.proofs.PrefixLaws.{before_irrefl, leads_self}
 use Rattle.defs.specs.OrderLaws.{Ascends, then_after, among}
-use Rattle.defs.specs.EntryLaws.{view_real}
-use Rattle.defs.specs.ListLaws.{prefix_of, IsLongest, cover_is_longest, prefix_plain, prefix_covered}
+use Rattle.defs.proofs.EntryLaws.{view_real}
+use Rattle.defs.specs.ListLaws.{prefix_of, IsLongest, prefix_plain, prefix_covered}
+use Rattle.defs.proofs.ListLaws.{cover_is_longest}
 use Rattle.claims.specs.Terms.{says, tag_of, CoveringUnionSays, both, left, right}
 use Rattle.claims.specs.Members.{list_prefixes, list_prefixes_lem, belongs, members}
 

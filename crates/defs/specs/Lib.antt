@@ -13,7 +13,6 @@ pub mod Borders
 -- What the definitions come to: laws.
 pub mod Lemmas
 pub mod PrefixLaws
-pub mod DeeperLaws
 pub mod OrderLaws
 pub mod NodeLaws
 pub mod EntryLaws

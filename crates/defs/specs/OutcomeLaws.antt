@@ -5,9 +5,9 @@ use Rattle.std.proofs.Common.{sym, arith, eqb-true, ne_eqb}
 use Rattle.std.proofs.lemmas.Bool.{eqb-false}
 use Rattle.defs.specs.declared.Answer.{Answer}
 use Rattle.defs.specs.declared.Operation.{Operation}
-use Rattle.defs.specs.Basics.{if◌then◌else◌, any, each}
-use Rattle.defs.specs.Lists.{records_of, words_of}
-use Rattle.defs.specs.Tidy.{nodes_of, tidy_pool, tidy_values}
+use Rattle.defs.specs.Basics.{if◌then◌else◌, any}
+use Rattle.defs.specs.Lists.{records_of}
+use Rattle.defs.specs.Tidy.{nodes_of}
 use Rattle.defs.specs.Outcome.{Row, Side, first_of, written, entries_of, side_rows, list_rows, list_outcome, equal_outcome, tidy_rows, tidy_outcome, check_rows, check_outcome}
 use Rattle.defs.specs.Lemmas.{All, nil, more, split, not_both}
 
@@ -100,9 +100,9 @@ refused_keeps a new old h = rw (ne_eqb a.number 0 (λ e. omega arith))
 -- a list call, and each of tidying's two buffers
 pub list_refused : (op : Operation) (width : ℕ) (l r : Side) (out : List ℕ) → 0 < (list_outcome op width l r out).answer.number
     → (list_outcome op width l r out).output ≡ out
-list_refused op width l r out h = refused_keeps (list_outcome op width l r out).answer (each words_of (records_of op (entries_of l) (entries_of r))) out h
+list_refused op width l r out h = rw (ne_eqb (list_outcome op width l r out).answer.number 0 (λ e. omega arith))
 
 pub tidy_refused : (width : ℕ) (s : Side) (out values : List ℕ) → 0 < (tidy_outcome width s out values).answer.number
     → ((tidy_outcome width s out values).output ≡ out) × ((tidy_outcome width s out values).values ≡ values)
 tidy_refused width s out values h =
-    (refused_keeps (tidy_outcome width s out values).answer (tidy_pool (entries_of s)) out h, refused_keeps (tidy_outcome width s out values).answer (tidy_values (entries_of s)) values h)
+    let n = ne_eqb (tidy_outcome width s out values).answer.number 0 (λ e. omega arith) in (rw n, rw n)

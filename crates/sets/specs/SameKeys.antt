@@ -11,12 +11,13 @@ use Rattle.defs.specs.Pool.{bit, data_bit}
 use Rattle.defs.specs.Entries.{Entry, Place, data_place, child_place, places, prefixes, entries_at}
 use Rattle.defs.specs.Lists.{is_in, left_only, records_of, same_keys}
 use Rattle.defs.specs.Lemmas.{both_ways, All, nil, all_imp, split, and_left, and_right, each_on}
-use Rattle.defs.specs.PrefixLaws.{Whole, leads_len, whole_long, same_self}
+use Rattle.defs.specs.PrefixLaws.{Whole, whole_long, same_self}
+use Rattle.defs.proofs.PrefixLaws.{leads_len}
 use Rattle.defs.specs.OrderLaws.{end}
 use Rattle.defs.specs.NodeLaws.{Fits}
-use Rattle.defs.specs.EntryLaws.{sound, sound_under}
+use Rattle.defs.proofs.EntryLaws.{sound, sound_under}
 use Rattle.defs.specs.Outcome.{Side}
-use Rattle.defs.specs.DeeperLaws.{whole_deeper}
+use Rattle.defs.proofs.DeeperLaws.{whole_deeper}
 use Rattle.bits.specs.Places.{place_len, place_value}
 use Rattle.bits.specs.PlaceLaws.{made, place_len_below}
 use Rattle.theory.specs.declared.Node.{Node}

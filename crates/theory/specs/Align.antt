@@ -8,7 +8,7 @@ use Rattle.defs.specs.declared.Operation.TheVariants.{CoveringDifference}
 use Rattle.defs.specs.Prefix.{leads, deeper}
 use Rattle.defs.specs.Entries.{data_place, child_place}
 use Rattle.defs.specs.PrefixLaws.{Whole}
-use Rattle.defs.specs.DeeperLaws.{whole_deeper}
+use Rattle.defs.proofs.DeeperLaws.{whole_deeper}
 use Rattle.theory.specs.declared.Node.{Node}
 use Rattle.theory.specs.declared.Cover.TheVariants.{Nothing}
 use Rattle.theory.specs.declared.Level.{Level}

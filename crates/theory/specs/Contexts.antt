@@ -11,7 +11,7 @@ use Rattle.defs.specs.Entries.{Entry, prefixes}
 use Rattle.defs.specs.Lists.{Record, all_of, is_in, is_led, longest}
 use Rattle.defs.specs.Lemmas.{All, split, not_both, all_imp, all_both, each_on}
 use Rattle.defs.specs.PrefixLaws.{Whole}
-use Rattle.defs.specs.OrderLaws.{all_merge}
+use Rattle.defs.proofs.OrderLaws.{all_merge}
 use Rattle.theory.specs.declared.Cover.{Cover}
 use Rattle.theory.specs.declared.Cover.TheVariants.{Nothing, Of}
 use Rattle.theory.specs.Covering.{own, record_at, covering}

@@ -8,8 +8,9 @@ use Rattle.defs.specs.Basics.{if◌then◌else◌}
 use Rattle.defs.specs.Entries.{Entry, prefixes}
 use Rattle.defs.specs.Lists.{Record, value_of, cover_of, no_cover, put, merge, longest}
 use Rattle.defs.specs.Lemmas.{All, nil, more, split, not_both, all_imp, map_append, map_on}
-use Rattle.defs.specs.PrefixLaws.{Whole, before_asym, leads_trans, leads_order, leads_chain}
-use Rattle.defs.specs.OrderLaws.{all_merge}
+use Rattle.defs.specs.PrefixLaws.{Whole}
+use Rattle.defs.proofs.PrefixLaws.{before_asym, leads_trans, leads_order, leads_chain}
+use Rattle.defs.proofs.OrderLaws.{all_merge}
 
 -- the longest entry that leads p is p's own
 abbrev pub own : Prefix → Option Entry → Bool

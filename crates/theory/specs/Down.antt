@@ -11,8 +11,9 @@ use Rattle.defs.specs.Prefix.{first, leads, deeper}
 use Rattle.defs.specs.Pool.{data_of, child_of, bit, data_bit}
 use Rattle.defs.specs.Entries.{Place, data_place, child_place, places_at, places}
 use Rattle.defs.specs.Lemmas.{split, is_false, each_append}
-use Rattle.defs.specs.PrefixLaws.{Whole, leads_of, leads_len, leads_first, leads_trans, leads_same, shorter}
-use Rattle.defs.specs.DeeperLaws.{deeper_first, deeper_same, whole_deeper}
+use Rattle.defs.specs.PrefixLaws.{Whole}
+use Rattle.defs.proofs.PrefixLaws.{leads_of, leads_len, leads_first, leads_trans, leads_same, shorter}
+use Rattle.defs.proofs.DeeperLaws.{deeper_first, deeper_same, whole_deeper}
 use Rattle.theory.specs.declared.Node.{Node}
 use Rattle.theory.specs.declared.Node.TheVariants.{Absent, At}
 use Rattle.theory.specs.declared.Value.TheVariants.{Missing}

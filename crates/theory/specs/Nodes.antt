@@ -10,8 +10,10 @@ use Rattle.defs.specs.Prefix.{leads, deeper}
 use Rattle.defs.specs.Entries.{Entry, Place, data_place, child_place, places_at, places, prefixes}
 use Rattle.defs.specs.Lists.{Record, longest}
 use Rattle.defs.specs.Lemmas.{All, all_imp, all_both, all_append, map_append, each_append}
-use Rattle.defs.specs.PrefixLaws.{Whole, low, high, leads_self, before_irrefl, before_asym, whole_high, low_high, low_not_high}
-use Rattle.defs.specs.NodeLaws.{Led, Real, Below, Fits, whole_deeper_low, whole_deeper_high, deeper_none, by_levels, tree, halves, tree_step, led, real, led_low, led_high, led_halves}
+use Rattle.defs.specs.PrefixLaws.{Whole, low, high}
+use Rattle.defs.proofs.PrefixLaws.{leads_self, before_irrefl, before_asym, whole_high, low_high, low_not_high}
+use Rattle.defs.specs.NodeLaws.{Led, Real, Below, Fits}
+use Rattle.defs.proofs.NodeLaws.{whole_deeper_low, whole_deeper_high, deeper_none, by_levels, tree, halves, tree_step, led, real, led_low, led_high, led_halves}
 use Rattle.theory.specs.Covering.{covering, longest_none, seam}
 
 -- the longest of a node's own entries above the n bits of value v, or else c

@@ -12,10 +12,12 @@ use Rattle.defs.specs.Prefix.{leads, before, same}
 use Rattle.defs.specs.Entries.{Entry, prefixes, view}
 use Rattle.defs.specs.Lists.{Record, missing, no_cover, cover_of, all_of, find, is_in, is_led, longest, plain, covered, records_of}
 use Rattle.defs.specs.Lemmas.{All, nil, more, split, not_both, all_imp, all_both, all_keep, all_kept, all_unmap, map_map, map_on, keep_map, keep_on, keep_true, all_true}
-use Rattle.defs.specs.PrefixLaws.{Whole, same_self, same_says, leads_self, leads_same, leads_order, before_irrefl}
-use Rattle.defs.specs.OrderLaws.{Ascends, then_after, among, all_merge, merge_ascends, among_merge, among_keep, ascends_keep, ascends_unique}
+use Rattle.defs.specs.PrefixLaws.{Whole, same_self, same_says}
+use Rattle.defs.proofs.PrefixLaws.{leads_self, leads_same, leads_order, before_irrefl}
+use Rattle.defs.specs.OrderLaws.{Ascends, then_after, among, among_keep}
+use Rattle.defs.proofs.OrderLaws.{all_merge, merge_ascends, among_merge, ascends_keep, ascends_unique}
 use Rattle.defs.specs.NodeLaws.{Real}
-use Rattle.defs.specs.EntryLaws.{view_ascends, view_real}
+use Rattle.defs.proofs.EntryLaws.{view_ascends, view_real}
 use Rattle.theory.specs.Covering.{own, tag_of, cover_at, record_at, covering, longest_none}
 
 -- a covering-union record without its cover

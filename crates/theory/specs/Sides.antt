@@ -8,10 +8,12 @@ use Rattle.defs.specs.Prefix.{leads, deeper}
 use Rattle.defs.specs.Pool.{data_of, child_of, first_child, first_value, bit, rank, data_bit}
 use Rattle.defs.specs.Entries.{Entry, Place, data_place, child_place, places, held_at, entries_at, under}
 use Rattle.defs.specs.Lemmas.{nil, split, not_both, all_imp, all_keep, all_unmap, keep_append, keep_true, keep_false}
-use Rattle.defs.specs.PrefixLaws.{Whole, comparable, leads_trans}
-use Rattle.defs.specs.OrderLaws.{end, ascends_keep}
+use Rattle.defs.specs.PrefixLaws.{Whole}
+use Rattle.defs.proofs.PrefixLaws.{comparable, leads_trans}
+use Rattle.defs.specs.OrderLaws.{end}
+use Rattle.defs.proofs.OrderLaws.{ascends_keep}
 use Rattle.defs.specs.NodeLaws.{Led, Fits}
-use Rattle.defs.specs.EntryLaws.{sound, held_fits, prefixes_under}
+use Rattle.defs.proofs.EntryLaws.{sound, held_fits, prefixes_under}
 use Rattle.theory.specs.declared.Node.{Node}
 use Rattle.theory.specs.declared.Node.TheVariants.{Absent, At}
 use Rattle.theory.specs.declared.Value.{Value}

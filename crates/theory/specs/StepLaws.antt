@@ -11,7 +11,7 @@ use Rattle.defs.specs.Entries.{Entry, Place}
 use Rattle.defs.specs.Lists.{Record, put, longest, value_of, cover_of, no_cover}
 use Rattle.defs.specs.Lemmas.{not_both, and_right}
 use Rattle.defs.specs.Outcome.{Side}
-use Rattle.defs.specs.PrefixLaws.{leads_self, before_irrefl}
+use Rattle.defs.proofs.PrefixLaws.{leads_self, before_irrefl}
 use Rattle.theory.specs.declared.Node.{Node}
 use Rattle.theory.specs.declared.Value.{Value}
 use Rattle.theory.specs.declared.Value.TheVariants.{Missing, Is}

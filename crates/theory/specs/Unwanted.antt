@@ -9,10 +9,11 @@ use Rattle.defs.specs.Prefix.{deeper}
 use Rattle.defs.specs.Entries.{Entry, Place, data_place, child_place, places_at, places, prefixes}
 use Rattle.defs.specs.Lists.{Record, cover_of, no_cover, longest}
 use Rattle.defs.specs.Lemmas.{All, nil, more, split, not_both, all_imp, all_append}
-use Rattle.defs.specs.PrefixLaws.{Whole, leads_len}
-use Rattle.defs.specs.OrderLaws.{all_merge}
+use Rattle.defs.specs.PrefixLaws.{Whole}
+use Rattle.defs.proofs.PrefixLaws.{leads_len}
+use Rattle.defs.proofs.OrderLaws.{all_merge}
 use Rattle.defs.specs.NodeLaws.{Real, Fits}
-use Rattle.defs.specs.DeeperLaws.{whole_deeper}
+use Rattle.defs.proofs.DeeperLaws.{whole_deeper}
 use Rattle.theory.specs.declared.Node.{Node}
 use Rattle.theory.specs.declared.Node.TheVariants.{Absent, At}
 use Rattle.theory.specs.declared.Covers.{Covers}

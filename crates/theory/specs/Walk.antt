@@ -16,10 +16,12 @@ use Rattle.defs.specs.Lists.{Record}
 use Rattle.defs.specs.Tidy.{word_of}
 use Rattle.defs.specs.Lemmas.{All, nil, more, split, not_both, all_imp, all_kept, each_append}
 use Rattle.defs.specs.Outcome.{Side}
-use Rattle.defs.specs.PrefixLaws.{Whole, leads_len}
+use Rattle.defs.specs.PrefixLaws.{Whole}
+use Rattle.defs.proofs.PrefixLaws.{leads_len}
 use Rattle.defs.specs.OrderLaws.{end}
-use Rattle.defs.specs.EntryLaws.{Sound, sound, sound_under}
-use Rattle.defs.specs.DeeperLaws.{whole_deeper}
+use Rattle.defs.specs.EntryLaws.{Sound}
+use Rattle.defs.proofs.EntryLaws.{sound, sound_under}
+use Rattle.defs.proofs.DeeperLaws.{whole_deeper}
 use Rattle.theory.specs.declared.Node.{Node}
 use Rattle.theory.specs.declared.Node.TheVariants.{Absent, At}
 use Rattle.theory.specs.declared.Cover.{Cover}

@@ -14,9 +14,10 @@ use Rattle.defs.specs.Prefix.{leads, same, deeper}
 use Rattle.defs.specs.Entries.{Entry, under, view}
 use Rattle.defs.specs.Tidy.{data_prefixes, child_prefixes, is_under, entries_in, children_of, word_of}
 use Rattle.defs.specs.Lemmas.{All, nil, more, split, is_false, all_imp, all_unmap, all_kept, keep_false, keep_map, all_map, all_true, any_false, map_ext, map_map}
-use Rattle.defs.specs.PrefixLaws.{Whole, leads_len, leads_self, leads_trans, same_says}
-use Rattle.defs.specs.EntryLaws.{view_led}
-use Rattle.defs.specs.DeeperLaws.{deeper_apart}
+use Rattle.defs.specs.PrefixLaws.{Whole, same_says}
+use Rattle.defs.proofs.PrefixLaws.{leads_len, leads_self, leads_trans}
+use Rattle.defs.proofs.EntryLaws.{view_led}
+use Rattle.defs.proofs.DeeperLaws.{deeper_apart}
 use Rattle.tidied.specs.ListFacts.{full, keep_ext, any_full, all_up_to, all_each, each_none}
 use Rattle.tidied.specs.Words.{word_ext, word_map, word_zero}
 use Rattle.tidied.specs.Halving.{onto}

@@ -12,7 +12,8 @@ use Rattle.defs.specs.Pool.{node_count, data_of, child_of, bit, ones}
 use Rattle.defs.specs.Entries.{Entry, all_entries, view}
 use Rattle.defs.specs.Tidy.{data_prefixes, child_prefixes, is_under, entries_in, children_of, nodes_of, word_of, tidy_pool, tidy_values}
 use Rattle.defs.specs.Lemmas.{All, nil, more, split, all_imp, all_append, all_map, all_keep, each_append}
-use Rattle.defs.specs.EntryLaws.{Sound, sound_all}
+use Rattle.defs.specs.EntryLaws.{Sound}
+use Rattle.defs.proofs.EntryLaws.{sound_all}
 use Rattle.pool.specs.Sound.{children_before, values_before}
 use Rattle.tidied.specs.ListFacts.{up_to_member, all_each, each_all, all_up_to}
 use Rattle.tidied.specs.Words.{ones_word, word_lt}

@@ -10,9 +10,11 @@ use Rattle.defs.specs.Pool.{data_of, child_of, first_child, first_value, bit, ra
 use Rattle.defs.specs.Entries.{Entry, entries_at, all_entries, under, view}
 use Rattle.defs.specs.Tidy.{data_prefixes, child_prefixes, is_under, entries_in, children_of, word_of, pool_from}
 use Rattle.defs.specs.Lemmas.{split, not_both, is_false, all_imp, all_unmap, keep_true, keep_false, map_on, map_map}
-use Rattle.defs.specs.PrefixLaws.{comparable, leads_trans, same_says}
-use Rattle.defs.specs.EntryLaws.{Sound, view_led}
-use Rattle.defs.specs.DeeperLaws.{leads_deeper}
+use Rattle.defs.specs.PrefixLaws.{same_says}
+use Rattle.defs.proofs.PrefixLaws.{comparable, leads_trans}
+use Rattle.defs.specs.EntryLaws.{Sound}
+use Rattle.defs.proofs.EntryLaws.{view_led}
+use Rattle.defs.proofs.DeeperLaws.{leads_deeper}
 use Rattle.tidied.specs.ListFacts.{full, any_full, keep_swap, keep_within, run, each_join, map_each, map_rows, all_up_to}
 use Rattle.tidied.specs.Words.{word_map, ones_word}
 use Rattle.tidied.specs.Halving.{onto}

@@ -11,9 +11,9 @@ use Rattle.defs.specs.Entries.{Entry, Place, data_place, child_place, places_at,
 use Rattle.defs.specs.Tidy.{data_prefixes, child_prefixes, is_under, entries_in, children_of, nodes_from, nodes_of, tidy_values}
 use Rattle.defs.specs.Lemmas.{All, nil, more, split, all_map, all_true, all_keep, each_append}
 use Rattle.defs.specs.PrefixLaws.{Whole, whole_top, whole_long}
-use Rattle.defs.specs.NodeLaws.{by_levels, deeper_low, deeper_high, deeper_none}
+use Rattle.defs.proofs.NodeLaws.{by_levels, deeper_low, deeper_high, deeper_none}
 use Rattle.defs.specs.EntryLaws.{Sound}
-use Rattle.defs.specs.DeeperLaws.{whole_deeper}
+use Rattle.defs.proofs.DeeperLaws.{whole_deeper}
 use Rattle.tidied.specs.ListFacts.{full, any_full, each_none, all_each}
 use Rattle.tidied.specs.Halving.{onto, under_top, under_halves, under_last, under_none}
 

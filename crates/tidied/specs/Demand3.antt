@@ -11,7 +11,8 @@ use Rattle.defs.specs.Check.{pool_limit, fault_of}
 use Rattle.defs.specs.Lists.{same_keys}
 use Rattle.defs.specs.Tidy.{is_under, entries_in, nodes_of, tidy_pool, tidy_values}
 use Rattle.defs.specs.Lemmas.{All}
-use Rattle.defs.specs.EntryLaws.{Sound, view_ascends}
+use Rattle.defs.specs.EntryLaws.{Sound}
+use Rattle.defs.proofs.EntryLaws.{view_ascends}
 use Rattle.pool.specs.Sound.{Formed, formed, values_before, values_small}
 use Rattle.tidied.specs.ListFacts.{all_at}
 use Rattle.tidied.specs.Layout.{pool_length, nodes_fix, all_used}

@@ -7,10 +7,11 @@ use Rattle.defs.specs.Prefix.{leads, same, deeper}
 use Rattle.defs.specs.Pool.{data_of, child_of, first_child, first_value, bit, rank, data_bit}
 use Rattle.defs.specs.Entries.{Entry, Place, data_place, child_place, places, held_at, entries_at, all_entries, under, prefixes}
 use Rattle.defs.specs.Lemmas.{All, nil, more, split, not_both, is_false, and_left, and_right, all_imp, all_kept, all_unmap, keep_true, keep_false, keep_append}
-use Rattle.defs.specs.PrefixLaws.{Whole, leads_len, leads_self, leads_trans, same_self, same_says}
+use Rattle.defs.specs.PrefixLaws.{Whole, same_self, same_says}
+use Rattle.defs.proofs.PrefixLaws.{leads_len, leads_self, leads_trans}
 use Rattle.defs.specs.NodeLaws.{Fits}
-use Rattle.defs.specs.EntryLaws.{sound, sound_all, held_fits}
-use Rattle.defs.specs.DeeperLaws.{deeper_apart, leads_deeper}
+use Rattle.defs.proofs.EntryLaws.{sound, sound_all, held_fits}
+use Rattle.defs.proofs.DeeperLaws.{deeper_apart, leads_deeper}
 use Rattle.tidied.specs.ListFacts.{keep_within}
 use Rattle.tidied.specs.Halving.{onto, under_none}
 use Rattle.tidied.specs.Count.{Deep, deep_child}

@@ -7,11 +7,12 @@ use Rattle.defs.specs.Basics.{keep}
 use Rattle.defs.specs.Prefix.{first, leads, before, same, deeper, top}
 use Rattle.defs.specs.Entries.{Entry, under, prefixes}
 use Rattle.defs.specs.Lemmas.{both_ways, All, split, not_both, is_false, all_imp, all_unmap, keep_on, keep_true, keep_false}
-use Rattle.defs.specs.PrefixLaws.{Whole, low, high, leads_of, leads_len, leads_first, leads_self, leads_trans, leads_same, leads_low, leads_high, low_high, before_below, before_irrefl, before_asym, same_self, same_says}
+use Rattle.defs.specs.PrefixLaws.{Whole, low, high, same_self, same_says}
+use Rattle.defs.proofs.PrefixLaws.{leads_of, leads_len, leads_first, leads_self, leads_trans, leads_same, leads_low, leads_high, low_high, before_below, before_irrefl, before_asym}
 use Rattle.defs.specs.OrderLaws.{Ascends, then_after}
 use Rattle.defs.specs.NodeLaws.{Real}
 use Rattle.defs.specs.EntryLaws.{Sound}
-use Rattle.defs.specs.DeeperLaws.{deeper_first}
+use Rattle.defs.proofs.DeeperLaws.{deeper_first}
 
 -- ---- the halves of a prefix
 module _ (q : Prefix) (w : Whole q) (room : q.len < 64) where

@@ -14,10 +14,13 @@ use Rattle.defs.specs.Pool.{data_of, child_of, first_child, first_value, bit, ra
 use Rattle.defs.specs.Entries.{Entry, Place, data_place, child_place, places_at, places, held_at, entries_at, all_entries, under, view, prefixes}
 use Rattle.defs.specs.Tidy.{data_prefixes, child_prefixes, is_under, entries_in, children_of, nodes_of, tidy_pool, tidy_values}
 use Rattle.defs.specs.Lemmas.{split, not_both, all_imp, all_unmap, keep_false, map_append}
-use Rattle.defs.specs.PrefixLaws.{Whole, whole_top, before_irrefl, same_says}
+use Rattle.defs.specs.PrefixLaws.{Whole, whole_top, same_says}
+use Rattle.defs.proofs.PrefixLaws.{before_irrefl}
 use Rattle.defs.specs.OrderLaws.{Ascends, end, then_after}
-use Rattle.defs.specs.NodeLaws.{Fits, deeper_low, deeper_high, deeper_none, by_levels, tree_step, tree_last}
-use Rattle.defs.specs.EntryLaws.{Sound, sound, sound_all, sound_under, held_fits}
+use Rattle.defs.specs.NodeLaws.{Fits}
+use Rattle.defs.proofs.NodeLaws.{deeper_low, deeper_high, deeper_none, by_levels, tree_step, tree_last}
+use Rattle.defs.specs.EntryLaws.{Sound}
+use Rattle.defs.proofs.EntryLaws.{sound, sound_all, sound_under, held_fits}
 use Rattle.tidied.specs.ListFacts.{full, any_full, each_at, keep_rank}
 use Rattle.tidied.specs.Words.{word_bit, word_rank}
 use Rattle.tidied.specs.Halving.{onto, under_top, under_halves, under_last, under_none}

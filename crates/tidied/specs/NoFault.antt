@@ -16,7 +16,8 @@ use Rattle.defs.specs.Entries.{Entry}
 use Rattle.defs.specs.Check.{pool_limit, Fault, usable, fault_at, fault_from, fault_of}
 use Rattle.defs.specs.Tidy.{data_prefixes, child_prefixes, is_under, entries_in, children_of, nodes_from, nodes_of, word_of, tidy_pool}
 use Rattle.defs.specs.Lemmas.{All, nil, more, split, is_false, all_imp, any_false, map_append, each_append}
-use Rattle.defs.specs.PrefixLaws.{leads_len, same_says}
+use Rattle.defs.specs.PrefixLaws.{same_says}
+use Rattle.defs.proofs.PrefixLaws.{leads_len}
 use Rattle.defs.specs.EntryLaws.{Sound}
 use Rattle.tidied.specs.ListFacts.{rows, length_rows}
 use Rattle.tidied.specs.Words.{word_rows, word_zero, ones_word}

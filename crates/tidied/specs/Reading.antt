@@ -12,7 +12,7 @@ use Rattle.defs.specs.Pool.{node_count, data_of, first_value, bit, rank, ones, d
 use Rattle.defs.specs.Entries.{Entry, all_entries, view}
 use Rattle.defs.specs.Tidy.{data_prefixes, entries_in, nodes_of, word_of, tidy_values}
 use Rattle.defs.specs.Lemmas.{All, more, split, keep_true}
-use Rattle.defs.specs.EntryLaws.{sound_all}
+use Rattle.defs.proofs.EntryLaws.{sound_all}
 use Rattle.bits.specs.WordLaws.{rank_all}
 use Rattle.pool.specs.Sound.{values_before}
 use Rattle.tidied.specs.ListFacts.{full, any_full, run, length_run, run_append, up_to_run, map_each, each_map, each_join, map_rows}

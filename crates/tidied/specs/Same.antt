@@ -11,8 +11,10 @@ use Rattle.defs.specs.Lists.{is_in, same_keys}
 use Rattle.defs.specs.Tidy.{data_prefixes, child_prefixes, is_under, entries_in, children_of, nodes_from, nodes_of, word_of, pool_from, tidy_pool, tidy_values}
 use Rattle.defs.specs.Lemmas.{both_ways, All, nil, more, split, not_both, and_left, and_right, all_imp, keep_map, map_map}
 use Rattle.defs.specs.PrefixLaws.{same_self, same_says}
-use Rattle.defs.specs.OrderLaws.{Ascends, ascends_unique}
-use Rattle.defs.specs.EntryLaws.{Sound, sound_all}
+use Rattle.defs.specs.OrderLaws.{Ascends}
+use Rattle.defs.proofs.OrderLaws.{ascends_unique}
+use Rattle.defs.specs.EntryLaws.{Sound}
+use Rattle.defs.proofs.EntryLaws.{sound_all}
 use Rattle.tidied.specs.ListFacts.{any_map, map_each, each_ext, keep_ext}
 use Rattle.tidied.specs.Words.{word_ext}
 use Rattle.tidied.specs.Halving.{onto, under_top}

@@ -9,7 +9,7 @@ use Rattle.defs.specs.Check.{pool_limit}
 use Rattle.defs.specs.Entries.{Entry, entries_at, all_entries}
 use Rattle.defs.specs.Tidy.{data_prefixes, child_prefixes, is_under, entries_in, children_of, nodes_of, word_of, pool_from, tidy_pool}
 use Rattle.defs.specs.Lemmas.{All, nil, more, not_both, all_imp, all_both, all_map}
-use Rattle.defs.specs.EntryLaws.{sound_all}
+use Rattle.defs.proofs.EntryLaws.{sound_all}
 use Rattle.pool.specs.Sound.{Formed, depth}
 use Rattle.tidied.specs.ListFacts.{full, any_full, run, run_member, all_tail}
 use Rattle.tidied.specs.Words.{word_lt}

@@ -15,9 +15,10 @@ use Rattle.defs.specs.Pool.{node_count, data_of, child_of, first_child, first_va
 use Rattle.defs.specs.Entries.{Entry, all_entries, under, view}
 use Rattle.defs.specs.Tidy.{child_prefixes, is_under, children_of, nodes_from, nodes_of}
 use Rattle.defs.specs.Lemmas.{length_keep, All, nil, more, split, not_both, is_false, all_append, all_imp, keep_append, keep_false, map_append, each_append}
-use Rattle.defs.specs.PrefixLaws.{whole_top, leads_trans}
-use Rattle.defs.specs.EntryLaws.{sound_all}
-use Rattle.defs.specs.DeeperLaws.{leads_deeper}
+use Rattle.defs.specs.PrefixLaws.{whole_top}
+use Rattle.defs.proofs.PrefixLaws.{leads_trans}
+use Rattle.defs.proofs.EntryLaws.{sound_all}
+use Rattle.defs.proofs.DeeperLaws.{leads_deeper}
 use Rattle.bits.specs.WordLaws.{rank_suc}
 use Rattle.pool.specs.Sound.{Formed, children_before, values_before, depth, depth_60, data_small, children_all, child_node}
 use Rattle.tidied.specs.ListFacts.{run, length_run, run_append, up_to_run, any_imp, any_full, full, keep_swap, each_ext, all_each, all_up_to, map_each}

@@ -9,7 +9,7 @@ use Rattle.defs.specs.Pool.{node_count, data_of, child_of, bit, ones, data_bit}
 use Rattle.defs.specs.Entries.{Entry, Place, data_place, child_place, places, held_at, entries_at, all_entries}
 use Rattle.defs.specs.Tidy.{child_prefixes, is_under, entries_in, children_of, word_of, pool_from, tidy_pool}
 use Rattle.defs.specs.Lemmas.{All, nil, more, split, all_imp, all_both, all_unmap, map_map, map_on, each_on}
-use Rattle.defs.specs.EntryLaws.{sound_all}
+use Rattle.defs.proofs.EntryLaws.{sound_all}
 use Rattle.pool.specs.Sound.{Formed, children_before, values_before, depth, depth_60, child_node, data_small}
 use Rattle.tidied.specs.ListFacts.{full, any_full, run, run_from, all_tail, all_up_to, map_each}
 use Rattle.tidied.specs.Words.{word_map, word_bits, ones_word}

@@ -12,8 +12,9 @@ use Rattle.defs.specs.Pool.{node_count, data_of, child_of, first_child, bit, ran
 use Rattle.defs.specs.Entries.{entries_at, all_entries, under, view}
 use Rattle.defs.specs.Tidy.{data_prefixes, child_prefixes, is_under, word_of}
 use Rattle.defs.specs.Lemmas.{split, not_both}
-use Rattle.defs.specs.PrefixLaws.{Whole, leads_trans}
-use Rattle.defs.specs.DeeperLaws.{leads_deeper}
+use Rattle.defs.specs.PrefixLaws.{Whole}
+use Rattle.defs.proofs.PrefixLaws.{leads_trans}
+use Rattle.defs.proofs.DeeperLaws.{leads_deeper}
 use Rattle.bits.specs.Places.{place_len, place_value, place_prefix}
 use Rattle.bits.specs.PlaceLaws.{made, data_place_lem, child_place_lem, place_len_below, place_prefix_lem}
 use Rattle.pool.specs.Sound.{depth_60, child_node}

@@ -9,8 +9,9 @@ use Rattle.defs.specs.declared.Prefix.{Prefix}
 use Rattle.defs.specs.Prefix.{first, leads, deeper, top}
 use Rattle.defs.specs.Pool.{node_count, data_of, child_of, first_child, bit, rank, ones}
 use Rattle.defs.specs.Lemmas.{split, is_false}
-use Rattle.defs.specs.PrefixLaws.{Whole, cut, prefix_eq, leads_of, leads_len, leads_first, leads_trans, leads_top, leads_cut, comparable}
-use Rattle.defs.specs.DeeperLaws.{deeper_first, leads_deeper}
+use Rattle.defs.specs.PrefixLaws.{Whole, cut, prefix_eq}
+use Rattle.defs.proofs.PrefixLaws.{leads_of, leads_len, leads_first, leads_trans, leads_top, leads_cut, comparable}
+use Rattle.defs.proofs.DeeperLaws.{deeper_first, leads_deeper}
 use Rattle.bits.specs.WordLaws.{rank_mono, rank_less, rank_suc, rank_le, select}
 use Rattle.pool.specs.Sound.{depth, depth_60, children_mono, children_apart, child_node, parent}
 use Rattle.theory.specs.Sides.{on_path}

@@ -9,7 +9,8 @@ use Rattle.std.proofs.Math.Pow.{shr-shr}
 use Rattle.defs.specs.declared.Prefix.{Prefix}
 use Rattle.defs.specs.Prefix.{first, leads, deeper, top}
 use Rattle.defs.specs.Entries.{Entry, entries_at, under, view}
-use Rattle.defs.specs.PrefixLaws.{cut, cut_whole, Whole, prefix_eq, leads_of}
+use Rattle.defs.specs.PrefixLaws.{cut, cut_whole, Whole, prefix_eq}
+use Rattle.defs.proofs.PrefixLaws.{leads_of}
 use Rattle.theory.specs.declared.Node.{Node}
 use Rattle.theory.specs.declared.Node.TheVariants as node
 use Rattle.theory.specs.Sides.{side_entries, child_in}

@@ -6,11 +6,12 @@ use Rattle.defs.specs.declared.Prefix.{Prefix}
 use Rattle.defs.specs.Basics.{every}
 use Rattle.defs.specs.Prefix.{leads, deeper}
 use Rattle.defs.specs.Pool.{node_count, child_of, bit, data_bit}
-use Rattle.defs.specs.PrefixLaws.{Whole, leads_len, whole_long, cut_le}
+use Rattle.defs.specs.PrefixLaws.{Whole, whole_long, cut_le}
+use Rattle.defs.proofs.PrefixLaws.{leads_len}
 use Rattle.defs.specs.Entries.{Entry, Place, data_place, child_place, places, entries_at, under, view}
-use Rattle.defs.specs.EntryLaws.{sound}
+use Rattle.defs.proofs.EntryLaws.{sound}
 use Rattle.defs.specs.Lemmas.{both_ways, All, all_imp, split, and_left, and_right}
-use Rattle.defs.specs.DeeperLaws.{whole_deeper}
+use Rattle.defs.proofs.DeeperLaws.{whole_deeper}
 use Rattle.bits.specs.Places.{place_prefix}
 use Rattle.bits.specs.PlaceLaws.{child_place_lem, place_prefix_lem}
 use Rattle.bits.specs.WordLaws.{bit_none}

@@ -8,11 +8,12 @@ use Rattle.defs.specs.declared.Prefix.{Prefix}
 use Rattle.defs.specs.Basics.{if◌then◌else◌, up_to}
 use Rattle.defs.specs.Prefix.{first, leads, deeper}
 use Rattle.defs.specs.Pool.{node_count, data_of, bit, data_bit}
-use Rattle.defs.specs.PrefixLaws.{Whole, leads_of, leads_trans}
+use Rattle.defs.specs.PrefixLaws.{Whole}
+use Rattle.defs.proofs.PrefixLaws.{leads_of, leads_trans}
 use Rattle.defs.specs.Entries.{Place, data_place, child_place}
 use Rattle.defs.specs.Tidy.{word_of}
 use Rattle.defs.specs.Outcome.{Side}
-use Rattle.defs.specs.DeeperLaws.{deeper_first}
+use Rattle.defs.proofs.DeeperLaws.{deeper_first}
 use Rattle.bits.specs.Places.{place_len, place_value, place_prefix}
 use Rattle.bits.specs.PlaceLaws.{made, data_place_lem, place_len_below, place_prefix_lem}
 use Rattle.bits.specs.Worked.{one_shl}

@@ -9,7 +9,7 @@ use Rattle.defs.specs.Prefix.{deeper}
 use Rattle.defs.specs.Entries.{Place, data_place, child_place, places}
 use Rattle.defs.specs.Lists.{Record, record_words}
 use Rattle.defs.specs.Lemmas.{split}
-use Rattle.defs.specs.DeeperLaws.{whole_deeper}
+use Rattle.defs.proofs.DeeperLaws.{whole_deeper}
 use Rattle.theory.specs.declared.Node.{Node}
 use Rattle.theory.specs.declared.Node.TheVariants as node
 use Rattle.theory.specs.declared.Cover.TheVariants as cover

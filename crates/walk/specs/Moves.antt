@@ -9,7 +9,7 @@ use Rattle.defs.specs.declared.Operation.TheVariants.{Union, Intersection, Diffe
 use Rattle.defs.specs.Prefix.{deeper}
 use Rattle.defs.specs.Entries.{data_place, child_place, places}
 use Rattle.defs.specs.PrefixLaws.{Whole}
-use Rattle.defs.specs.DeeperLaws.{whole_deeper}
+use Rattle.defs.proofs.DeeperLaws.{whole_deeper}
 use Rattle.bits.specs.Places.{place_len, place_value, place_prefix}
 use Rattle.bits.specs.Worked.{one_shl}
 use Rattle.bits.specs.PlaceLaws.{place_prefix_lem, place_len_below, child_place_lem}

@@ -6,7 +6,8 @@ use native.Mathlib.Omega.{arith}
 use Rattle.std.proofs.Math.Pow.{high as pow-high}
 use Rattle.defs.specs.declared.Prefix.{Prefix}
 use Rattle.defs.specs.Prefix.{first, leads, deeper}
-use Rattle.defs.specs.PrefixLaws.{Whole, cut, cut_at, leads_of, leads_first}
+use Rattle.defs.specs.PrefixLaws.{Whole, cut, cut_at}
+use Rattle.defs.proofs.PrefixLaws.{leads_of, leads_first}
 
 module _ (p : Prefix) (w : Whole p) (n : ℕ) (short : p.len + n ≤ 64) where
   -- the key by its first bits
