@@ -7,8 +7,7 @@ help: ## this list
 FILE ?= crates/prefixsets/stdin
 run: ## prove, build and run the text program on FILE, or on the covering union of the manual's A and B
 	@tests/tools >&2
-	@mkdir -p build
-	@rt check prefixsets > build/rt-check.log 2>&1 || { tail -n 20 build/rt-check.log; exit 1; }
+	@tests/built prefixsets >&2
 	@target/bin/prefixsets < $(FILE)
 
 test: ## the whole test suite: proofs, must-fail edits, programs, Rust tests
@@ -16,12 +15,11 @@ test: ## the whole test suite: proofs, must-fail edits, programs, Rust tests
 
 prove: ## prove what changed since the last run; quick, and not the verdict
 	@tests/tools
-	@rt check
+	@rt all check
 
 lib: ## prove and build the static library for C and Rust, target/staticlib/liblhamtrovi.a
 	@tests/tools
-	@mkdir -p build
-	@rt staticlib lhamtrovi > build/rt-staticlib.log 2>&1 || { tail -n 20 build/rt-staticlib.log; exit 1; }
+	@tests/built library
 	@echo target/staticlib/liblhamtrovi.a
 
 bench: lib ## time the library against ordinary fast Rust; the table goes to docs/BENCHMARKS.md by hand, the plot to docs/benchmarks.svg
@@ -30,7 +28,7 @@ bench: lib ## time the library against ordinary fast Rust; the table goes to doc
 COUNT ?= 1000000
 SEED ?= 1
 compare: lib ## compare the library and the text program with the reference on COUNT random cases of SEED
-	@rt check prefixsets > build/rt-check.log 2>&1 || { tail -n 20 build/rt-check.log; exit 1; }
+	@tests/built prefixsets
 	@cargo build --offline --release --quiet --manifest-path rust/Cargo.toml -p compare
 	@rust/target/release/compare $(COUNT) $(SEED)
 
@@ -45,5 +43,5 @@ vectors: ## make the stored vectors anew from the Rust reference
 	@mv build/vectors.txt vectors/cases.txt
 	@git diff --stat -- vectors/cases.txt
 
-clean: ## remove what was built
-	rm -rf target build rust/target
+clean: ## remove what was built, and what the checks kept
+	rm -rf target build rust/target crates/*/out

@@ -15,7 +15,7 @@
  *   what another reads.
  * - A call uses less than 8 KiB of stack: 4,000 bytes at most were measured, on pools as deep as there are (tests/c/stack.c). No depth comes from the input.
  *
- * The source of truth is the Rattle code, crate `lhamtrovi`; nothing proves this header to agree with it, and the tests call each function through it.
+ * The source of truth is the Rattle code, crate `lhamtrovi_c`; nothing proves this header to agree with it, and the tests call each function through it.
  */
 #ifndef LHAMTROVI_H
 #define LHAMTROVI_H

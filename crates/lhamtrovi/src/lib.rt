@@ -1,4 +1,4 @@
-// The calls for C and Rust: each takes roots as key and length, and answers what the crate's own call answers.
+// The calls over plain words: each takes roots as key and length, and answers what the crate's own call answers. lhamtrovi_c exports them to C.
 #![tactic(auto)]
 
 ghost use Rattle.std.specs.Prelude.{◌≡◌};
@@ -9,16 +9,14 @@ ghost use Rattle.lhamtrovi.specs.Plain.{side};
 use defs::{Answer, Prefix};
 
 // Whether a pool is well-formed, and its first fault.
-#[unsafe(no_mangle)]
-pub extern "C" fn lhamtrovi_check(width: u32, pool: &[u32]) -> Answer
+pub fn lhamtrovi_check(width: u32, pool: &[u32]) -> Answer
     ensures { result ≡ check_outcome width pool.now }
 {
     pool::check(width, pool)
 }
 
 // D1: the prefixes of either view.
-#[unsafe(no_mangle)]
-pub extern "C" fn lhamtrovi_union(
+pub fn lhamtrovi_union(
     width: u32,
     left: &[u32],
     left_key: u64,
@@ -42,8 +40,7 @@ pub extern "C" fn lhamtrovi_union(
 }
 
 // D2: the prefixes of both views.
-#[unsafe(no_mangle)]
-pub extern "C" fn lhamtrovi_intersection(
+pub fn lhamtrovi_intersection(
     width: u32,
     left: &[u32],
     left_key: u64,
@@ -67,8 +64,7 @@ pub extern "C" fn lhamtrovi_intersection(
 }
 
 // D3: the prefixes of the left view that are not in the right one.
-#[unsafe(no_mangle)]
-pub extern "C" fn lhamtrovi_difference(
+pub fn lhamtrovi_difference(
     width: u32,
     left: &[u32],
     left_key: u64,
@@ -92,8 +88,7 @@ pub extern "C" fn lhamtrovi_difference(
 }
 
 // D4: the prefixes of the left view that no prefix of the right one equals or leads.
-#[unsafe(no_mangle)]
-pub extern "C" fn lhamtrovi_covering_difference(
+pub fn lhamtrovi_covering_difference(
     width: u32,
     left: &[u32],
     left_key: u64,
@@ -117,8 +112,7 @@ pub extern "C" fn lhamtrovi_covering_difference(
 }
 
 // D5: the prefixes of either view, each with its cover in the other.
-#[unsafe(no_mangle)]
-pub extern "C" fn lhamtrovi_covering_union(
+pub fn lhamtrovi_covering_union(
     width: u32,
     left: &[u32],
     left_key: u64,
@@ -142,8 +136,7 @@ pub extern "C" fn lhamtrovi_covering_union(
 }
 
 // D6: whether the two views have the same prefixes.
-#[unsafe(no_mangle)]
-pub extern "C" fn lhamtrovi_equal_keys(
+pub fn lhamtrovi_equal_keys(
     width: u32,
     left: &[u32],
     left_key: u64,
@@ -166,8 +159,7 @@ pub extern "C" fn lhamtrovi_equal_keys(
 }
 
 // D7: the tidy pool of a view, and the old value index of each new one.
-#[unsafe(no_mangle)]
-pub extern "C" fn lhamtrovi_tidy(
+pub fn lhamtrovi_tidy(
     width: u32,
     pool: &[u32],
     key: u64,
