@@ -3,7 +3,7 @@ use Rattle.std.specs.Prelude.{◌≡◌, Bool, true, false, List, [], ℕ, ◌+�
 use Rattle.std.proofs.Common.{sym, ap, ap₂, ◌∙◌, subst, arith, length-append}
 use Prim.Native.Char.{code}
 use Rattle.defs.specs.declared.Answer.{Answer}
-use Rattle.defs.specs.Basics.{if◌then◌else◌}
+use Rattle.defs.specs.Basics.{if◌then◌otherwise◌}
 use Rattle.defs.specs.Pool.{node_count}
 use Rattle.defs.specs.Lemmas.{split}
 use Rattle.defs.specs.Outcome.{answer}
@@ -30,7 +30,7 @@ over_long new old = omega (arith, length-append new (drop (length new) old))
 nodes_inside : (h : Head) (l r : Side) (left right : List ℕ) → Inside (request_of h l r) (over l.words left) (over r.words right)
 nodes_inside h l r left right = go (5 + node_count l.words + node_count r.words) (eqb (length r.left_over) 0)
   where
-    go : (n : ℕ) (b : Bool) → Inside (if b then Good (record { head = h; left = length l.words; right = length r.words }) else Bad n) (over l.words left) (over r.words right)
+    go : (n : ℕ) (b : Bool) → Inside (if b then Good (record { head = h; left = length l.words; right = length r.words }) otherwise Bad n) (over l.words left) (over r.words right)
     go n true = (over_long l.words left, over_long r.words right)
     go n false = tt
 

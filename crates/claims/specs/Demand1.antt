@@ -3,7 +3,7 @@ use Rattle.std.specs.Prelude.{◌≡◌, refl, true, List, [], ◌∷◌, ◌++�
 use Rattle.std.proofs.Common.{sym, ◌∙◌, ap, arith, lit<}
 use Rattle.defs.specs.declared.Answer.{Answer}
 use Rattle.defs.specs.declared.Operation.{Operation}
-use Rattle.defs.specs.Basics.{if◌then◌else◌, any, each}
+use Rattle.defs.specs.Basics.{if◌then◌otherwise◌, any, each}
 use Rattle.defs.specs.Pool.{node_count}
 use Rattle.defs.specs.Check.{fault_of}
 use Rattle.defs.specs.Lists.{records_of, words_of, same_keys}
@@ -111,7 +111,7 @@ module _ (width : ℕ) (l r : Side) where
   equal_5 = exactly (side_table width l r) 5 _ (lit< tt) refl refl
 
   -- Number 0, with 1 for yes or 0 for no beside it, is given exactly when no refusal is.
-  pub equal_0 : Exactly (equal_outcome width l r) (answer 0 (if same_keys (entries_of l) (entries_of r) then 1 else 0) 0)
+  pub equal_0 : Exactly (equal_outcome width l r) (answer 0 (if same_keys (entries_of l) (entries_of r) then 1 otherwise 0) 0)
       (GoodWidth width × (WellFormed width l.pool × (WellFormed width r.pool × ((l.root.len ≤ width) × (r.root.len ≤ width)))))
   equal_0 = exactly_done (side_table width l r) _ refl
 

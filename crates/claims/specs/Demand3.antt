@@ -3,7 +3,7 @@ use Rattle.std.specs.Prelude.{Bool, ◌≡◌, true, List, [], ◌∷◌, ◌++�
 use Rattle.std.proofs.Common.{sym, ◌∙◌, ap, arith}
 use Rattle.defs.specs.declared.Prefix.{Prefix}
 use Rattle.defs.specs.declared.Answer.{Answer}
-use Rattle.defs.specs.Basics.{if◌then◌else◌, up_to}
+use Rattle.defs.specs.Basics.{if◌then◌otherwise◌, up_to}
 use Rattle.defs.specs.Prefix.{top}
 use Rattle.defs.specs.Pool.{node_count}
 use Rattle.defs.specs.Entries.{Entry, all_entries, view, prefixes}
@@ -94,7 +94,7 @@ empty_view s e = (ap tidy_pool e ∙ empty_pool, ap tidy_values e ∙ empty_valu
 module _ (width : ℕ) (l r : Side) (good : GoodWidth width) (well-l : WellFormed width l.pool) (well-r : WellFormed width r.pool)
     (root-l : l.root.len ≤ width) (root-r : r.root.len ≤ width) where
   -- Then the answer is yes or no.
-  done : equal_outcome width l r ≡ answer 0 (if same_keys (entries_of l) (entries_of r) then 1 else 0) 0
+  done : equal_outcome width l r ≡ answer 0 (if same_keys (entries_of l) (entries_of r) then 1 otherwise 0) 0
   done = (equal_0 width l r).whenever (good, (well-l, (well-r, (root-l, root-r))))
 
   -- Where no refusal is given, key equality answers 1 exactly when the two tidy pools are the same, word for word.
@@ -107,7 +107,7 @@ module _ (width : ℕ) (l r : Side) (good : GoodWidth width) (well-l : WellForme
 
   -- Two empty views, at whatever roots, are answered with 1.
   pub equal_empty : entries_of l ≡ [] → entries_of r ≡ [] → equal_outcome width l r ≡ answer 0 1 0
-  equal_empty e f = done ∙ ap (λ (b : Bool). answer 0 (if b then 1 else 0) 0) (empty_views l r e f).0
+  equal_empty e f = done ∙ ap (λ (b : Bool). answer 0 (if b then 1 otherwise 0) 0) (empty_views l r e f).0
 
 module _ (width : ℕ) (s : Side) (out values : List ℕ) (good : GoodWidth width) (well : WellFormed width s.pool) (root : s.root.len ≤ width) where
   -- Where there is room, tidying answers the number of nodes, and leaves the tidy pool and the value list at the front of its buffers.

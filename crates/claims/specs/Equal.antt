@@ -3,7 +3,7 @@ use Rattle.std.specs.Prelude.{◌≡◌, refl, Bool, true, List, [], ◌∷◌, 
 use Rattle.std.proofs.Common.{sym, ◌∙◌, ap, arith}
 use Rattle.defs.specs.declared.Prefix.{Prefix}
 use Rattle.defs.specs.declared.Answer.{Answer}
-use Rattle.defs.specs.Basics.{if◌then◌else◌}
+use Rattle.defs.specs.Basics.{if◌then◌otherwise◌}
 use Rattle.defs.specs.Entries.{Entry, prefixes}
 use Rattle.defs.specs.Lists.{is_in, same_keys}
 use Rattle.defs.specs.Tidy.{data_prefixes, child_prefixes, nodes_of, tidy_pool, tidy_values}
@@ -31,8 +31,8 @@ module _ (L R : List Entry) (a : Ascends (prefixes L)) (b : Ascends (prefixes R)
           (λ t. t ∙ sym (is_false (is_in p R) (λ f. not_both (entry_of p L ((h p).1 (entry_says p R f))) t)))
 
 -- an answer of yes or no, where yes means C
-module _ (a : Answer) (b : Bool) (done : a ≡ answer 0 (if b then 1 else 0) 0) (C : Type 0) (means : (b ≡ true) ↔ C) where
-  says : (n : ℕ) → a ≡ answer 0 n 0 → (if b then 1 else 0) ≡ n
+module _ (a : Answer) (b : Bool) (done : a ≡ answer 0 (if b then 1 otherwise 0) 0) (C : Type 0) (means : (b ≡ true) ↔ C) where
+  says : (n : ℕ) → a ≡ answer 0 n 0 → (if b then 1 otherwise 0) ≡ n
   says n h = ap (λ (x : Answer). x.beside) (sym done ∙ h)
 
   pub answers_yes : (a ≡ answer 0 1 0) ↔ C

@@ -1,7 +1,7 @@
 -- The numbers and nodes that a fault can have.
 use Rattle.std.specs.Prelude.{◌≡◌, refl, Bool, true, false, not, ◌&&◌, ◌||◌, List, [], ◌∷◌, ◌⊎◌, ℕ, zero, suc, ◌+◌, ◌^◌, ◌%◌, ◌≤◌, ◌<◌, leb, ltb, eqb, length}
 use Rattle.std.proofs.Common.{inl, inr, arith, lit≤, ltb-true}
-use Rattle.defs.specs.Basics.{if◌then◌else◌}
+use Rattle.defs.specs.Basics.{if◌then◌otherwise◌}
 use Rattle.defs.specs.Pool.{node_count, data_of, child_of, first_child, first_value, ones}
 use Rattle.defs.specs.Check.{Fault, pool_limit, usable, fault_at, fault_from, fault_of}
 use Rattle.defs.specs.Lemmas.{split}
@@ -10,7 +10,7 @@ use Rattle.defs.specs.Lemmas.{split}
 abbrev AtNode : ℕ → Type 0
 AtNode n = (n ≡ 0) ⊎ ((4 ≤ n) × (n ≤ 8))
 
-choice : (b : Bool) (n rest : ℕ) → 4 ≤ n → n ≤ 8 → AtNode rest → AtNode (if b then n else rest)
+choice : (b : Bool) (n rest : ℕ) → 4 ≤ n → n ≤ 8 → AtNode rest → AtNode (if b then n otherwise rest)
 choice true n rest l h k = inr (l, h)
 choice false n rest l h k = k
 
@@ -52,8 +52,8 @@ module _ (width : ℕ) (w : List ℕ) where
   inside f (inr k) h = inr (k.0, k.1, omega arith)
 
   first_two : (a b : Bool) (f : Fault) → (0 < f.number → Known f)
-      → 0 < (if a then record { number = 1; node = 0 } else if b then record { number = 2; node = 0 } else f).number
-      → Known (if a then record { number = 1; node = 0 } else if b then record { number = 2; node = 0 } else f)
+      → 0 < (if a then record { number = 1; node = 0 } otherwise if b then record { number = 2; node = 0 } otherwise f).number
+      → Known (if a then record { number = 1; node = 0 } otherwise if b then record { number = 2; node = 0 } otherwise f)
   first_two true b f k h = inl (lit≤ tt, refl)
   first_two false true f k h = inl (lit≤ tt, refl)
   first_two false false f k h = k h

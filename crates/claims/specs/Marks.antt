@@ -9,7 +9,7 @@ use Rattle.std.proofs.lemmas.Bool.{not-true}
 use Rattle.defs.specs.declared.Prefix.{Prefix}
 use Rattle.defs.specs.declared.Operation.{Operation}
 use Rattle.defs.specs.declared.Operation.TheVariants.{CoveringUnion}
-use Rattle.defs.specs.Basics.{if◌then◌else◌, each}
+use Rattle.defs.specs.Basics.{if◌then◌otherwise◌, each}
 use Rattle.defs.specs.Prefix.{leads, same, deeper, top}
 use Rattle.defs.specs.Pool.{node_count, data_of, child_of, bit, data_bit}
 use Rattle.defs.specs.Entries.{Entry, Place, data_place, child_place, places_at, places, held_at, entries_at, view, prefixes}
@@ -92,7 +92,7 @@ module _ {P : Entry → Type 0} (p : Prefix) where
 
   longest_from : (c : Option Entry) → Holds P c → {es : List Entry} → All P es → Holds P (longest c es p)
   longest_from c h nil = h
-  longest_from c h (more {x = e} k ks) = longest_from (if leads e.at p then some e else c) (split (leads e.at p) (λ t. rw t k) (λ t. rw t h)) ks
+  longest_from c h (more {x = e} k ks) = longest_from (if leads e.at p then some e otherwise c) (split (leads e.at p) (λ t. rw t k) (λ t. rw t h)) ks
 
   pub longest_holds : {es : List Entry} → All P es → Holds P (longest none es p)
   longest_holds k = longest_from none tt k

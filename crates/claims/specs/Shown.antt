@@ -4,7 +4,7 @@ use Rattle.std.proofs.Common.{arith}
 use Rattle.std.specs.Int.Count.{ones_in}
 use Rattle.defs.specs.declared.Operation.{Operation}
 use Rattle.defs.specs.declared.Operation.TheVariants.{Union, Intersection, Difference, CoveringDifference, CoveringUnion}
-use Rattle.defs.specs.Basics.{if◌then◌else◌}
+use Rattle.defs.specs.Basics.{if◌then◌otherwise◌}
 use Rattle.defs.specs.Prefix.{leads, before, same}
 use Rattle.defs.specs.Entries.{places}
 use Rattle.defs.specs.Tidy.{data_prefixes, child_prefixes, nodes_of}
@@ -98,8 +98,8 @@ all_differ = record { width = 32; left = whole halves; right = whole all_and_hal
 abbrev pub which : Listed → Operation
 which o =
     if eqb o.answer.beside 0 then CoveringDifference
-    else if eqb o.answer.beside 3 then (if eqb (get_or o.output 10 0) gone then Union else CoveringUnion)
-    else (if eqb (get_or o.output 2 0) 3 then Intersection else Difference)
+    otherwise if eqb o.answer.beside 3 then (if eqb (get_or o.output 10 0) gone then Union otherwise CoveringUnion)
+    otherwise (if eqb (get_or o.output 2 0) 3 then Intersection otherwise Difference)
 
 pub tells_list : (op : Operation) → which (list_at op all_differ) ≡ op
 unfolding ones_in leads before same places

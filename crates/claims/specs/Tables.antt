@@ -3,7 +3,7 @@ use Rattle.std.specs.Prelude.{◌≡◌, refl, Bool, true, false, not, ◌&&◌,
 use Rattle.std.proofs.Common.{sym, ◌∙◌, ap, inl, inr, arith, ltb-true, ltb-false, lt-ltb, le-ltb, eqb-true, eq-eqb, ne_eqb}
 use Rattle.std.proofs.lemmas.Bool.{false≢true, eqb-false, not-true}
 use Rattle.defs.specs.declared.Answer.{Answer}
-use Rattle.defs.specs.Basics.{if◌then◌else◌, any, every}
+use Rattle.defs.specs.Basics.{if◌then◌otherwise◌, any, every}
 use Rattle.defs.specs.Check.{fault_of}
 use Rattle.defs.specs.Lists.{record_words}
 use Rattle.defs.specs.Outcome.{Row, Side, answer, row, first_of, width_row}
@@ -48,9 +48,9 @@ NoneOf (m ∷ ms) = NoneFrom m ms
 -- the answer of the row of number n
 abbrev pub refusal_of : List Meant → ℕ → Answer
 refusal_of [] n = answer 0 0 0
-refusal_of (m ∷ ms) n = if eqb (number_of m.test) n then m.test.refusal else refusal_of ms n
+refusal_of (m ∷ ms) n = if eqb (number_of m.test) n then m.test.refusal otherwise refusal_of ms n
 
-says_row : (m : Meant) (b rest : Bool) (R : Type 0) → (rest ≡ true → R) → (if b then m.test.holds else not m.test.holds && rest) ≡ true
+says_row : (m : Meant) (b rest : Bool) (R : Type 0) → (rest ≡ true → R) → (if b then m.test.holds otherwise not m.test.holds && rest) ≡ true
     → choose b m.yes (m.no × R)
 says_row m true rest R f h = m.yes_says h
 says_row m false rest R f h = (m.no_says (not-true _ (and_left (not m.test.holds) rest h)), f (and_right (not m.test.holds) rest h))
@@ -60,7 +60,7 @@ given_says [] n h = absurd (false≢true h)
 given_says (m ∷ ms) n h = says_row m (eqb (number_of m.test) n) (given_by (rows_of ms) n) (Given ms n) (given_says ms n) h
 
 of_row : (m : Meant) (b : Bool) (R : Type 0) (a c : Answer) → (R → a ≡ c) → choose b m.yes (m.no × R)
-    → (if m.test.holds then m.test.refusal else a) ≡ (if b then m.test.refusal else c)
+    → (if m.test.holds then m.test.refusal otherwise a) ≡ (if b then m.test.refusal otherwise c)
 of_row m true R a c f h = rw (m.yes_of h)
 of_row m false R a c f h = rw (m.no_of h.0) (f h.1)
 
@@ -80,7 +80,7 @@ exactly ms n done p d e = record {
 abbrev pub positive : List Row → Bool
 positive = every (λ r. ltb 0 (number_of r))
 
-first_no : (m : Meant) (rest : Answer) → ltb 0 (number_of m.test) ≡ true → (if m.test.holds then m.test.refusal else rest).number ≡ 0
+first_no : (m : Meant) (rest : Answer) → ltb 0 (number_of m.test) ≡ true → (if m.test.holds then m.test.refusal otherwise rest).number ≡ 0
     → m.no × (rest.number ≡ 0)
 first_no m rest p h =
     split m.test.holds

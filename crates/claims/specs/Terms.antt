@@ -6,7 +6,7 @@ use Rattle.defs.specs.declared.Prefix.{Prefix}
 use Rattle.defs.specs.declared.Answer.{Answer}
 use Rattle.defs.specs.declared.Operation.{Operation}
 use Rattle.defs.specs.declared.Operation.TheVariants.{Union, Intersection, Difference, CoveringDifference, CoveringUnion}
-use Rattle.defs.specs.Basics.{if◌then◌else◌}
+use Rattle.defs.specs.Basics.{if◌then◌otherwise◌}
 use Rattle.defs.specs.Prefix.{leads}
 use Rattle.defs.specs.Entries.{Entry}
 use Rattle.defs.specs.Check.{fault_of}
@@ -89,7 +89,7 @@ without_cover x = record {
   key = x.key;
   len = x.len;
   tag = x.tag;
-  left = if eqb x.tag 2 then missing else x.left;
-  right = if eqb x.tag 1 then missing else x.right;
+  left = if eqb x.tag 2 then missing otherwise x.left;
+  right = if eqb x.tag 1 then missing otherwise x.right;
   cover = no_cover;
 }

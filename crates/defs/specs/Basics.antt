@@ -2,17 +2,17 @@
 use Rattle.std.specs.Prelude.{Bool, true, false, ◌&&◌, ◌||◌, List, [], ◌∷◌, ◌++◌, ℕ, zero, suc}
 
 module _ {A : Type 0} where
-  infixr 10 if◌then◌else◌
+  infixr 10 if◌then◌otherwise◌
   -- the first of two where the test passes, else the second
-  abbrev pub if◌then◌else◌ : Bool → A → A → A
-  if true then a else b = a
-  if false then a else b = b
+  abbrev pub if◌then◌otherwise◌ : Bool → A → A → A
+  if true then a otherwise b = a
+  if false then a otherwise b = b
 
 module _ {A : Type 0} where
   -- those of a list that pass the test, in order
   abbrev pub keep : (A → Bool) → List A → List A
   keep f [] = []
-  keep f (x ∷ xs) = if f x then x ∷ keep f xs else keep f xs
+  keep f (x ∷ xs) = if f x then x ∷ keep f xs otherwise keep f xs
 
   -- some of a list passes the test
   abbrev pub any : (A → Bool) → List A → Bool

@@ -1,7 +1,7 @@
 -- The entries of a pool and of a view: document 01, "Prefixes and pools" and "Views and the seven answers".
 use Rattle.std.specs.Prelude.{List, [], ◌∷◌, ◌++◌, map, ℕ, zero, suc, ◌+◌, ◌*◌}
 use Rattle.defs.specs.declared.Prefix.{Prefix}
-use Rattle.defs.specs.Basics.{if◌then◌else◌, keep, each}
+use Rattle.defs.specs.Basics.{if◌then◌otherwise◌, keep, each}
 use Rattle.defs.specs.Prefix.{leads, deeper, top}
 use Rattle.defs.specs.Pool.{data_of, child_of, first_child, first_value, bit, rank, data_bit}
 
@@ -29,9 +29,9 @@ abbrev pub held_at : List ℕ → (ℕ → Prefix → List Entry) → ℕ → Pr
 held_at w below node p (data_place n v) =
     if bit (data_bit n v) (data_of w node)
     then record { at = deeper p n v; value = first_value w node + rank (data_bit n v) (data_of w node) } ∷ []
-    else []
+    otherwise []
 held_at w below node p (child_place c) =
-    if bit c (child_of w node) then below (first_child w node + rank c (child_of w node)) (deeper p 5 c) else []
+    if bit c (child_of w node) then below (first_child w node + rank c (child_of w node)) (deeper p 5 c) otherwise []
 
 -- the entries in a node of prefix p and below it, `levels` nodes deep
 abbrev pub entries_at : List ℕ → ℕ → ℕ → Prefix → List Entry

@@ -4,7 +4,7 @@ use Rattle.std.proofs.Math.Option.{Option, none, some}
 use Rattle.defs.specs.declared.Prefix.{Prefix}
 use Rattle.defs.specs.declared.Operation.{Operation}
 use Rattle.defs.specs.declared.Operation.TheVariants.{Union, Intersection, Difference, CoveringDifference, CoveringUnion}
-use Rattle.defs.specs.Basics.{if◌then◌else◌, keep, any, every}
+use Rattle.defs.specs.Basics.{if◌then◌otherwise◌, keep, any, every}
 use Rattle.defs.specs.Prefix.{leads, before, same}
 use Rattle.defs.specs.Entries.{Entry, prefixes}
 
@@ -51,7 +51,7 @@ record_of p tag l r cover =
 -- an ascending list of prefixes with p put in, once
 abbrev pub put : Prefix → List Prefix → List Prefix
 put p [] = p ∷ []
-put p (q ∷ qs) = if before p q then p ∷ q ∷ qs else if before q p then q ∷ put p qs else q ∷ qs
+put p (q ∷ qs) = if before p q then p ∷ q ∷ qs otherwise if before q p then q ∷ put p qs otherwise q ∷ qs
 
 -- the prefixes of either list, in order
 abbrev pub merge : List Prefix → List Prefix → List Prefix
@@ -65,7 +65,7 @@ all_of L R = merge (prefixes L) (prefixes R)
 -- the entry of prefix p, or none
 abbrev pub find : Prefix → List Entry → Option Entry
 find p [] = none
-find p (e ∷ es) = if same p e.at then some e else find p es
+find p (e ∷ es) = if same p e.at then some e otherwise find p es
 
 -- p is the prefix of an entry
 abbrev pub is_in : Prefix → List Entry → Bool
@@ -78,7 +78,7 @@ is_led p = any (λ e. leads e.at p)
 -- the last entry that leads p, which is the longest where they ascend; or else c
 abbrev pub longest : Option Entry → List Entry → Prefix → Option Entry
 longest c [] p = c
-longest c (e ∷ es) p = longest (if leads e.at p then some e else c) es p
+longest c (e ∷ es) p = longest (if leads e.at p then some e otherwise c) es p
 
 -- the record of prefix p, from its entries on the two sides
 abbrev pub plain : Prefix → Option Entry → Option Entry → Record

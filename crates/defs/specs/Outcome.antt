@@ -3,7 +3,7 @@ use Rattle.std.specs.Prelude.{Bool, not, ◌||◌, List, [], ◌∷◌, ◌++◌
 use Rattle.defs.specs.declared.Prefix.{Prefix}
 use Rattle.defs.specs.declared.Answer.{Answer}
 use Rattle.defs.specs.declared.Operation.{Operation}
-use Rattle.defs.specs.Basics.{if◌then◌else◌, each}
+use Rattle.defs.specs.Basics.{if◌then◌otherwise◌, each}
 use Rattle.defs.specs.Pool.{node_count}
 use Rattle.defs.specs.Entries.{Entry, view}
 use Rattle.defs.specs.Check.{fault_of}
@@ -26,7 +26,7 @@ row holds refusal = record { holds = holds; refusal = refusal }
 -- the answer of the first row that holds, or else 0 with the number of what was done
 abbrev pub first_of : List Row → ℕ → Answer
 first_of [] done = answer 0 done 0
-first_of (r ∷ rs) done = if r.holds then r.refusal else first_of rs done
+first_of (r ∷ rs) done = if r.holds then r.refusal otherwise first_of rs done
 
 -- a side of a call: pool words and root
 pub record Side : Type 0 where
@@ -60,7 +60,7 @@ side_rows width l r =
 
 -- a buffer after a call: the new words at its front where the call is done, and otherwise as it was
 abbrev pub written : Answer → List ℕ → List ℕ → List ℕ
-written a new old = if eqb a.number 0 then new ++ drop (length new) old else old
+written a new old = if eqb a.number 0 then new ++ drop (length new) old otherwise old
 
 -- what a list call leaves: its answer and its output
 pub record Listed : Type 0 where
@@ -80,7 +80,7 @@ list_outcome op width l r out =
 
 -- key equality: 1 for yes, 0 for no
 abbrev pub equal_outcome : ℕ → Side → Side → Answer
-equal_outcome width l r = first_of (side_rows width l r) (if same_keys (entries_of l) (entries_of r) then 1 else 0)
+equal_outcome width l r = first_of (side_rows width l r) (if same_keys (entries_of l) (entries_of r) then 1 otherwise 0)
 
 -- what tidying leaves: its answer, its output and its value list
 pub record Tidied : Type 0 where

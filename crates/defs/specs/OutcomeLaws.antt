@@ -5,7 +5,7 @@ use Rattle.std.proofs.Common.{sym, arith, eqb-true, ne_eqb}
 use Rattle.std.proofs.lemmas.Bool.{eqb-false}
 use Rattle.defs.specs.declared.Answer.{Answer}
 use Rattle.defs.specs.declared.Operation.{Operation}
-use Rattle.defs.specs.Basics.{if◌then◌else◌, any}
+use Rattle.defs.specs.Basics.{if◌then◌otherwise◌, any}
 use Rattle.defs.specs.Lists.{records_of}
 use Rattle.defs.specs.Tidy.{nodes_of}
 use Rattle.defs.specs.Outcome.{Row, Side, first_of, written, entries_of, side_rows, list_rows, list_outcome, equal_outcome, tidy_rows, tidy_outcome, check_rows, check_outcome}
@@ -38,7 +38,7 @@ first_passes (r ∷ rs) ts d (more h hs) = rw h (first_passes rs ts d hs)
 -- the row of number n holds, and no row before it does, as a test
 abbrev pub given_by : List Row → ℕ → Bool
 given_by [] n = false
-given_by (r ∷ rs) n = if eqb (number_of r) n then r.holds else not r.holds && given_by rs n
+given_by (r ∷ rs) n = if eqb (number_of r) n then r.holds otherwise not r.holds && given_by rs n
 
 -- no number stands twice
 abbrev pub distinct : List ℕ → Bool

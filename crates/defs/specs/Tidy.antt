@@ -1,7 +1,7 @@
 -- D7, the tidy pool of a list of entries, and the old value index of each new one: document 01, "Views and the seven answers".
 use Rattle.std.specs.Prelude.{Bool, List, [], ◌∷◌, ◌++◌, map, ℕ, zero, suc, ◌+◌, ◌*◌, ◌^◌, length}
 use Rattle.defs.specs.declared.Prefix.{Prefix}
-use Rattle.defs.specs.Basics.{if◌then◌else◌, keep, any, each, up_to}
+use Rattle.defs.specs.Basics.{if◌then◌otherwise◌, keep, any, each, up_to}
 use Rattle.defs.specs.Prefix.{leads, same, deeper, top}
 use Rattle.defs.specs.Entries.{Entry}
 use Rattle.defs.specs.Lists.{is_in}
@@ -39,7 +39,7 @@ module _ {A : Type 0} where
   -- the word whose bit b is 1 where the b-th of a list passes the test
   abbrev pub word_of : (A → Bool) → List A → ℕ
   word_of f [] = 0
-  word_of f (x ∷ xs) = (if f x then 1 else 0) + 2 * word_of f xs
+  word_of f (x ∷ xs) = (if f x then 1 otherwise 0) + 2 * word_of f xs
 
 -- the words of nodes, after nodes with so many children and values
 abbrev pub pool_from : List Entry → List Prefix → ℕ → ℕ → List ℕ

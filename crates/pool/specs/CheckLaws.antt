@@ -7,7 +7,7 @@ use Prim.Native.Nat.{ℕ, zero, suc, ◌+◌, ◌-◌, ◌*◌, ◌%◌, ◌^◌
 use Rattle.std.proofs.Math.Dec.{eqb-suc-zero}
 use Rattle.std.proofs.lemmas.List.{replicate-append-replicate}
 use borrow.Author.Tests.{not-true, not-false, ltb-true, eqb-true, le-leb, lt-leb, lt-ltb, le-ltb, eq-eqb, ne_eqb}
-use Rattle.defs.specs.Basics.{if◌then◌else◌}
+use Rattle.defs.specs.Basics.{if◌then◌otherwise◌}
 use Rattle.defs.specs.Lemmas.{split}
 use Rattle.defs.specs.Pool.{node_count, data_of, child_of, first_child, first_value, ones, data_bit}
 use Rattle.defs.specs.Check.{Fault, pool_limit, usable, fault_at, fault_from, fault_of}
@@ -48,11 +48,11 @@ module _ (width : ℕ) (w : List ℕ) (i depth children values : ℕ) where
       → limit ≡ 2 ^ usable width depth → data-bits ≡ data_of w i → child ≡ child_of w i → first ≡ first_child w i → kids ≡ ones child → value ≡ first_value w i
       → deep ≡ (leb width (depth + 4) && ltb 0 child)
       → (from-8 from-7 from-6 from-5 from-4 : ℕ)
-      → from-8 ≡ (if not (eqb value values) then 8 else 0)
-      → from-7 ≡ (if ltb (node_count w) (first + kids) then 7 else from-8)
-      → from-6 ≡ (if not (eqb first (1 + children)) then 6 else from-7)
-      → from-5 ≡ (if deep then 5 else from-6)
-      → from-4 ≡ (if leb limit data-bits then 4 else from-5)
+      → from-8 ≡ (if not (eqb value values) then 8 otherwise 0)
+      → from-7 ≡ (if ltb (node_count w) (first + kids) then 7 otherwise from-8)
+      → from-6 ≡ (if not (eqb first (1 + children)) then 6 otherwise from-7)
+      → from-5 ≡ (if deep then 5 otherwise from-6)
+      → from-4 ≡ (if leb limit data-bits then 4 otherwise from-5)
       → from-4 ≡ fault_at width w i depth children values
   in_order limit data-bits child first kids value deep el ed ec ef ek ev et f8 f7 f6 f5 f4 g8 g7 g6 g5 g4 =
       rw (g4, g5, g6, g7, g8, et, ek, el, ed, ec, ef, ev)

@@ -1,7 +1,7 @@
 -- The check's counts, which stand for the queue of depths of the definition: document 01 has nodes level by level.
 use Rattle.std.specs.Prelude.{List, ◌++◌, ℕ, ◌+◌, ◌-◌, ◌*◌, ◌≤◌, ltb, eqb, replicate}
 use Rattle.defs.specs.declared.Answer.{Answer}
-use Rattle.defs.specs.Basics.{if◌then◌else◌}
+use Rattle.defs.specs.Basics.{if◌then◌otherwise◌}
 use Rattle.defs.specs.Pool.{data_of, child_of, ones}
 use Rattle.defs.specs.Check.{Fault, fault_at}
 use Rattle.defs.specs.Outcome.{answer}
@@ -17,7 +17,7 @@ queue c = replicate c.here c.depth ++ replicate c.next (c.depth + 5)
 abbrev pub level_of : Count → Count
 level_of c =
     if ltb 0 c.here then c
-    else record { depth = c.depth + 5; here = c.next; next = 0; children = c.children; values = c.values }
+    otherwise record { depth = c.depth + 5; here = c.next; next = 0; children = c.children; values = c.values }
 
 -- the counts after node i
 abbrev pub after_of : List ℕ → ℕ → Count → Count
@@ -34,8 +34,8 @@ abbrev pub step_at : ℕ → List ℕ → ℕ → Count → Step
 step_at width w i c =
     let fault = fault_at width w i c.depth c.children c.values in
     if eqb c.here 0 then Bad 3
-    else if ltb 0 fault then Bad fault
-    else On (after_of w i c)
+    otherwise if ltb 0 fault then Bad fault
+    otherwise On (after_of w i c)
 
 -- what is found at node i, from the counts before it
 unfoldable pub step_of : ℕ → List ℕ → ℕ → Count → Step
@@ -43,7 +43,7 @@ step_of width w i c = step_at width w i (level_of c)
 
 -- the check's answer once the width is right: the first fault, or the number of nodes
 abbrev pub fault_answer : ℕ → Fault → Answer
-fault_answer nodes f = if ltb 0 f.number then answer 2 f.node f.number else answer 0 nodes 0
+fault_answer nodes f = if ltb 0 f.number then answer 2 f.node f.number otherwise answer 0 nodes 0
 
 -- the counts are no larger than i nodes allow, and the depth no larger than that of j levels
 pub record Bounded (j i : ℕ) (c : Count) : Type 0 where

@@ -11,7 +11,7 @@ use Rattle.std.proofs.Math.Nat.{sub-zero, lt_of_not-le}
 use borrow.Author.Tests.{ltb-true, ltb-false, leb-false, eqb-true, eqb-false, not-false, le-leb}
 use Rattle.std.proofs.Math.ListN.{get_or, get_or-append}
 use Rattle.std.proofs.lemmas.List.{length-replicate, get_or-replicate}
-use Rattle.defs.specs.Basics.{if◌then◌else◌}
+use Rattle.defs.specs.Basics.{if◌then◌otherwise◌}
 use Rattle.defs.specs.Lemmas.{All, nil, more, all_append, split}
 use Rattle.defs.specs.Pool.{node_count, data_of, child_of, first_child, first_value, bit, rank, ones, data_bit}
 use Rattle.defs.specs.Check.{Fault, pool_limit, usable, fault_at, fault_from, fault_of}
@@ -64,7 +64,7 @@ pub record Formed (width : ℕ) (w : List ℕ) : Type 0 where
 -- ---- the proof
 
 -- a choice of fault that comes out 0 passed its test
-passed : (b : Bool) (n f : ℕ) → (if b then suc n else f) ≡ 0 → (b ≡ false) × (f ≡ 0)
+passed : (b : Bool) (n f : ℕ) → (if b then suc n otherwise f) ≡ 0 → (b ≡ false) × (f ≡ 0)
 passed true n f e = absurd (let z : ⊥ = omega arith in z)
 passed false n f e = (refl, e)
 
@@ -135,10 +135,10 @@ module _ (width : ℕ) (w : List ℕ) where
         deeper = λ r l. back d s i (first_child w x + r) (let z = k.later in omega arith) ∙ k.deeper r l ∙ ap (◌+ 5) (sym b);
       }
 
-  clear : (f node : ℕ) (g : Fault) → (if ltb 0 f then record { number = f; node = node } else g).number ≡ 0 → (f ≡ 0) × (g.number ≡ 0)
+  clear : (f node : ℕ) (g : Fault) → (if ltb 0 f then record { number = f; node = node } otherwise g).number ≡ 0 → (f ≡ 0) × (g.number ≡ 0)
   clear f node g e = go (ltb 0 f) refl e
     where
-      go : (b : Bool) → ltb 0 f ≡ b → (if b then record { number = f; node = node } else g).number ≡ 0 → (f ≡ 0) × (g.number ≡ 0)
+      go : (b : Bool) → ltb 0 f ≡ b → (if b then record { number = f; node = node } otherwise g).number ≡ 0 → (f ≡ 0) × (g.number ≡ 0)
       go true t h = absurd (let y = ltb-true 0 f t in let z : ⊥ = omega arith in z)
       go false t h = (let y = ltb-false 0 f t in omega arith, h)
 
@@ -211,7 +211,7 @@ module _ (width : ℕ) (w : List ℕ) where
       (all_append (tail_of a) (all_same (ones (child_of w i)) (d + 5) (deep_child i d _ _ f (head_of_lem a)))) in
       (heads_step left i d q f (head_of_lem a) s n ih.0 ih.1, rest_step left i d q f (head_of_lem a) s n ih.0 ih.1)
 
-  one_fault : (b : Bool) (n m : ℕ) (g : Fault) → (if b then record { number = suc n; node = m } else g).number ≡ 0 → (b ≡ false) × (g.number ≡ 0)
+  one_fault : (b : Bool) (n m : ℕ) (g : Fault) → (if b then record { number = suc n; node = m } otherwise g).number ≡ 0 → (b ≡ false) × (g.number ≡ 0)
   one_fault true n m g e = absurd (let z : ⊥ = omega arith in z)
   one_fault false n m g e = (refl, e)
 

@@ -2,7 +2,7 @@
 #![tactic(auto)]
 
 ghost use Rattle.std.specs.Prelude.{◌≡◌, ◌&&◌, ◌||◌, [], ◌∷◌, suc, ◌+◌, ◌-◌, ◌≤◌, ◌<◌, ◌^◌, min, leb, ltb, eqb};
-ghost use Rattle.defs.specs.Basics.{if◌then◌else◌};
+ghost use Rattle.defs.specs.Basics.{if◌then◌otherwise◌};
 ghost use Rattle.defs.specs.Pool.{node_count, data_of, child_of, first_child, first_value};
 ghost use Rattle.defs.specs.Check.{pool_limit, usable, fault_at, fault_from};
 ghost use Rattle.defs.specs.Outcome.{answer, check_outcome};
@@ -109,7 +109,7 @@ fn too_deep(width: u32, depth: u32, child: u32) -> bool
 
 // A fault where its test holds, and otherwise what the later tests find.
 fn fault_or(holds: bool, fault: u32, later: u32) -> u32
-    ensures { result ≡ (if holds then fault else later) }
+    ensures { result ≡ (if holds then fault otherwise later) }
 {
     if holds { fault } else { later }
 }

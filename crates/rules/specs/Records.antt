@@ -2,15 +2,15 @@
 use Rattle.std.specs.Prelude.{◌≡◌, Bool, true, false, List, [], ◌∷◌, ◌++◌, ℕ, ◌≤◌, length, set, drop}
 use Rattle.std.proofs.Common.{◌∙◌}
 use Rattle.std.proofs.lemmas.List.Edits.{sets-eq}
-use Rattle.defs.specs.Basics.{if◌then◌else◌}
+use Rattle.defs.specs.Basics.{if◌then◌otherwise◌}
 use Rattle.defs.specs.Lists.{Record, record_words, words_of}
 
 -- how far the output moves on with a record, and what its part is then
 abbrev pub moved : Bool → ℕ
-moved writes = if writes then record_words else 0
+moved writes = if writes then record_words otherwise 0
 
 abbrev pub front_of : Bool → Record → List ℕ → List ℕ
-front_of writes r part = if writes then words_of r ++ drop record_words part else part
+front_of writes r part = if writes then words_of r ++ drop record_words part otherwise part
 
 -- what is not written leaves its part as it was, and what is written moves on by its words
 pub not_moved : (writes : Bool) (r : Record) (part : List ℕ) → writes ≡ false → (0 ≡ moved writes) × (part ≡ front_of writes r part)

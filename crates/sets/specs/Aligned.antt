@@ -4,7 +4,7 @@ use Rattle.std.proofs.Common.{sym, ◌∙◌, ap, ap₂, subst, arith, mod-lt, z
 use Rattle.std.proofs.Math.Nat.{mul-div_right}
 use Rattle.defs.specs.declared.Prefix.{Prefix}
 use Rattle.defs.specs.declared.Operation.TheVariants.{CoveringDifference}
-use Rattle.defs.specs.Basics.{if◌then◌else◌}
+use Rattle.defs.specs.Basics.{if◌then◌otherwise◌}
 use Rattle.defs.specs.Prefix.{first, leads, deeper}
 use Rattle.defs.specs.Pool.{node_count}
 use Rattle.defs.specs.Lists.{Record}
@@ -33,7 +33,7 @@ align_down s path (suc left) k node.Absent = aligned.Missing
 align_down s path (suc left) k (node.At i) =
     let c = next_bits (5 * k) 5 path.key in
     if is_cover (cover_bits s (node.At i) (cut_to path (5 * k)) Nothing 5 c) then aligned.Covered
-    else align_down s path left (suc k) (child_in s.pool s.root (node.At i) c (cut_to path (5 * k + 5)))
+    otherwise align_down s path left (suc k) (child_in s.pool s.root (node.At i) c (cut_to path (5 * k + 5)))
 
 -- a node of the side, or a child that is missing
 abbrev pub node_aligned : Node → Aligned
@@ -44,7 +44,7 @@ node_aligned (node.At i) = aligned.At i
 abbrev pub align_step : Side → Prefix → ℕ → ℕ → Aligned
 align_step s path i d =
     let c = next_bits d 5 path.key in
-    if is_cover (cover_bits s (node.At i) (cut_to path d) Nothing 5 c) then aligned.Covered else node_aligned (child_in s.pool s.root (node.At i) c (cut_to path (d + 5)))
+    if is_cover (cover_bits s (node.At i) (cut_to path d) Nothing 5 c) then aligned.Covered otherwise node_aligned (child_in s.pool s.root (node.At i) c (cut_to path (d + 5)))
 
 -- what aligning comes to after one level
 abbrev pub align_on : Side → Prefix → ℕ → ℕ → Aligned → Aligned

@@ -8,7 +8,7 @@ use Rattle.std.proofs.lemmas.List.{length-map}
 use Rattle.defs.specs.declared.Prefix.{Prefix}
 use Rattle.defs.specs.declared.Operation.{Operation}
 use Rattle.defs.specs.declared.Operation.TheVariants.{Union, Intersection, Difference, CoveringDifference, CoveringUnion}
-use Rattle.defs.specs.Basics.{if◌then◌else◌, keep, each}
+use Rattle.defs.specs.Basics.{if◌then◌otherwise◌, keep, each}
 use Rattle.defs.specs.Prefix.{leads, before, deeper, top}
 use Rattle.defs.specs.Pool.{node_count, data_of, child_of, first_child, bit, rank, ones, data_bit}
 use Rattle.defs.specs.Entries.{Entry, Place, data_place, child_place, places_at, places, held_at, entries_at, all_entries, prefixes}
@@ -60,7 +60,7 @@ bits_in_lem d = omega (arith, low_bits d, high_bits d)
 
 -- what a child place may hold
 abbrev kid : List ℕ → ℕ → ℕ → ℕ → ℕ
-kid w lv i c = if bit c (child_of w i) then most w lv (first_child w i + rank c (child_of w i)) else 0
+kid w lv i c = if bit c (child_of w i) then most w lv (first_child w i + rank c (child_of w i)) otherwise 0
 
 module _ (w : List ℕ) (lv : ℕ) (i : ℕ) where
   kids_sum : (m : ℕ) → sum_from (kid w lv i) 0 m ≡ sum_from (most w lv) (first_child w i) (rank m (child_of w i))
@@ -159,7 +159,7 @@ put_most : (p : Prefix) (a : List Prefix) → length (put p a) ≤ suc (length a
 put_most p [] = omega arith
 put_most p (q ∷ a) = go (before p q) (before q p) (put_most p a)
   where
-    go : (b c : Bool) → length (put p a) ≤ suc (length a) → length (if b then p ∷ q ∷ a else if c then q ∷ put p a else q ∷ a) ≤ suc (suc (length a))
+    go : (b c : Bool) → length (put p a) ≤ suc (length a) → length (if b then p ∷ q ∷ a otherwise if c then q ∷ put p a otherwise q ∷ a) ≤ suc (suc (length a))
     go true c h = omega arith
     go false true h = omega arith
     go false false h = omega arith

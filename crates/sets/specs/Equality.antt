@@ -6,7 +6,7 @@ use Rattle.std.specs.Int.Count.{count_trailing_zeros}
 use Rattle.defs.specs.declared.Prefix.{Prefix}
 use Rattle.defs.specs.declared.Answer.{Answer}
 use Rattle.defs.specs.declared.Operation.TheVariants.{Union}
-use Rattle.defs.specs.Basics.{if◌then◌else◌}
+use Rattle.defs.specs.Basics.{if◌then◌otherwise◌}
 use Rattle.defs.specs.Prefix.{deeper}
 use Rattle.defs.specs.Pool.{bit}
 use Rattle.defs.specs.Lists.{same_keys}
@@ -203,12 +203,12 @@ module _ (width : ℕ) (l r : Side) where
 
   -- where the tests passed, the comparison decides
   module _ (p : Passed width l r) (t : Bool) (e : t ≡ same_keys (entries_of l) (entries_of r)) where
-    equal_passed : answer 0 (if t then 1 else 0) 0 ≡ equal_outcome width l r
+    equal_passed : answer 0 (if t then 1 otherwise 0) 0 ≡ equal_outcome width l r
     equal_passed =
-        ap (λ (x : Bool). answer 0 (if x then 1 else 0) 0) e ∙ sym (first_passes (side_rows width l r) [] (if same_keys (entries_of l) (entries_of r) then 1 else 0) (passed_rows width l r p))
+        ap (λ (x : Bool). answer 0 (if x then 1 otherwise 0) 0) e ∙ sym (first_passes (side_rows width l r) [] (if same_keys (entries_of l) (entries_of r) then 1 otherwise 0) (passed_rows width l r p))
 
     pub equal_yes : t ≡ true → (a : Answer) → a ≡ answer 0 1 0 → a ≡ equal_outcome width l r
-    equal_yes h a ea = ea ∙ ap (λ (x : Bool). answer 0 (if x then 1 else 0) 0) (sym h) ∙ equal_passed
+    equal_yes h a ea = ea ∙ ap (λ (x : Bool). answer 0 (if x then 1 otherwise 0) 0) (sym h) ∙ equal_passed
 
     pub equal_no : t ≡ false → (a : Answer) → a ≡ answer 0 0 0 → a ≡ equal_outcome width l r
-    equal_no h a ea = ea ∙ ap (λ (x : Bool). answer 0 (if x then 1 else 0) 0) (sym h) ∙ equal_passed
+    equal_no h a ea = ea ∙ ap (λ (x : Bool). answer 0 (if x then 1 otherwise 0) 0) (sym h) ∙ equal_passed

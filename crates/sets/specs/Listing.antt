@@ -8,7 +8,7 @@ use Rattle.defs.specs.declared.Prefix.{Prefix}
 use Rattle.defs.specs.declared.Answer.{Answer}
 use Rattle.defs.specs.declared.Operation.{Operation}
 use Rattle.defs.specs.declared.Operation.TheVariants.{Union, Intersection, Difference, CoveringDifference, CoveringUnion}
-use Rattle.defs.specs.Basics.{if◌then◌else◌}
+use Rattle.defs.specs.Basics.{if◌then◌otherwise◌}
 use Rattle.defs.specs.Pool.{node_count, data_of, first_value, ones}
 use Rattle.defs.specs.Check.{pool_limit, fault_of}
 use Rattle.defs.specs.Lists.{Record, record_words, records_of}
@@ -139,7 +139,7 @@ leaves a o = record { answer = a; output = o }
 
 -- what is left of a call whose other tests passed, by the records and the room for them
 abbrev pub room_outcome : List Record → List ℕ → Listed
-room_outcome rs out = if ltb (length out / record_words) (length rs) then leaves (answer 6 (length rs) 0) out else leaves (answer 0 (length rs) 0) (written_over rs out)
+room_outcome rs out = if ltb (length out / record_words) (length rs) then leaves (answer 6 (length rs) 0) out otherwise leaves (answer 0 (length rs) 0) (written_over rs out)
 
 -- the values of a pool, read off its last node
 pub last_values : (w : List ℕ) → Sane w → (a : ℕ) → a ≡ first_value w (length w / 4 - 1) → (b : ℕ) → b ≡ ones (data_of w (length w / 4 - 1)) → a + b ≡ values_of w

@@ -9,7 +9,7 @@ use lib.Dec.{ltb, eqb, leb}
 use lib.ListN.{length, get_or, take, drop, length-drop, drop_of_length-le}
 use lib.Seq.{drop-cons, drop-drop, take_all}
 use borrow.Author.Tests.{lt-ltb, le-ltb, eq-eqb, ne_eqb, ltb-true, leb-true}
-use Rattle.defs.specs.Basics.{if◌then◌else◌}
+use Rattle.defs.specs.Basics.{if◌then◌otherwise◌}
 use Rattle.defs.specs.Lemmas.{split, and_left, and_right}
 use Rattle.defs.specs.Cases.{same_words}
 use Rattle.defs.specs.declared.Operation.TheVariants.{Union, Intersection, Difference, CoveringDifference, CoveringUnion}
@@ -153,7 +153,7 @@ at_most_below most (Is n) = split (leb n most) (λ b. rw b (let l : n ≤ most =
 pub decimal_below : (s : List ℕ) (x : Number) → x ≡ decimal_of s → Below 256 x
 decimal_below s x e = rw e (go (eqb (length s) 0 || leading_zero s))
   where
-    go : (b : Bool) → Below 256 (if b then Not else at_most 255 (numeral_of 10 0 s))
+    go : (b : Bool) → Below 256 (if b then Not otherwise at_most 255 (numeral_of 10 0 s))
     go true = tt
     go false = at_most_below 255 (numeral_of 10 0 s)
 

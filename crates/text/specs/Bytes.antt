@@ -3,7 +3,7 @@ use Rattle.std.specs.Prelude.{Bool, ◌&&◌, List, [], ◌∷◌, ℕ, zero, su
 use Prim.Native.Char.{code}
 use Prim.Native.String.{String}
 use Prim.Native.String.{[] as nothing, ◌∷◌ as ◌then◌}
-use Rattle.defs.specs.Basics.{if◌then◌else◌}
+use Rattle.defs.specs.Basics.{if◌then◌otherwise◌}
 
 -- the bytes of an ASCII text
 abbrev pub bytes : String → List ℕ
@@ -25,11 +25,11 @@ is_at i b s = ltb i (length s) && eqb (get_or s i 0) b
 -- the place of the first line feed, or the length where there is none
 abbrev pub line_end : List ℕ → ℕ
 line_end [] = 0
-line_end (c ∷ s) = if eqb c feed then 0 else suc (line_end s)
+line_end (c ∷ s) = if eqb c feed then 0 otherwise suc (line_end s)
 
 -- the first line; a missing one, and one that no line feed closes, is read as an empty line, which is bad in every place
 abbrev pub line : List ℕ → List ℕ
-line s = if ltb (line_end s) (length s) then take (line_end s) s else []
+line s = if ltb (line_end s) (length s) then take (line_end s) s otherwise []
 
 -- what stands after the first line
 abbrev pub rest : List ℕ → List ℕ

@@ -1,7 +1,7 @@
 -- What an input says, or its first bad line: document 01, "The text program".
 use Rattle.std.specs.Prelude.{Bool, ◌&&◌, List, [], ◌∷◌, ◌++◌, ℕ, zero, suc, ◌+◌, ◌/◌, min, ltb, eqb, length, take, drop}
 use Prim.Native.Char.{code}
-use Rattle.defs.specs.Basics.{if◌then◌else◌}
+use Rattle.defs.specs.Basics.{if◌then◌otherwise◌}
 use Rattle.defs.specs.Pool.{ones, node_count}
 use Rattle.defs.specs.Cases.{same_words}
 use Rattle.defs.specs.declared.Operation.TheVariants.{Union, Intersection, Difference, CoveringDifference, CoveringUnion}
@@ -28,22 +28,22 @@ starts letter s = is_at 0 letter s && is_at 1 tab s
 
 -- line W: the width
 abbrev pub width_line : List ℕ → Number
-width_line s = if starts (code "W") s then decimal_of (drop 2 s) else number.Not
+width_line s = if starts (code "W") s then decimal_of (drop 2 s) otherwise number.Not
 
 -- the operations by name
 abbrev pub call_of : List ℕ → Asked
 call_of s =
     if same_words s (bytes "union") then asked.Is (Listing Union)
-    else if same_words s (bytes "intersection") then asked.Is (Listing Intersection)
-    else if same_words s (bytes "difference") then asked.Is (Listing Difference)
-    else if same_words s (bytes "covering-difference") then asked.Is (Listing CoveringDifference)
-    else if same_words s (bytes "covering-union") then asked.Is (Listing CoveringUnion)
-    else if same_words s (bytes "equality") then asked.Is Equality
-    else asked.Not
+    otherwise if same_words s (bytes "intersection") then asked.Is (Listing Intersection)
+    otherwise if same_words s (bytes "difference") then asked.Is (Listing Difference)
+    otherwise if same_words s (bytes "covering-difference") then asked.Is (Listing CoveringDifference)
+    otherwise if same_words s (bytes "covering-union") then asked.Is (Listing CoveringUnion)
+    otherwise if same_words s (bytes "equality") then asked.Is Equality
+    otherwise asked.Not
 
 -- line O: the operation
 abbrev pub call_line : List ℕ → Asked
-call_line s = if starts (code "O") s then call_of (drop 2 s) else asked.Not
+call_line s = if starts (code "O") s then call_of (drop 2 s) otherwise asked.Not
 
 -- a root from its key and length
 abbrev pub root_of : Number → Number → Root
@@ -53,7 +53,7 @@ root_of number.Not len = root.Not
 
 -- line L or R: a key of 16 digits, a tab, a length
 abbrev pub root_line : ℕ → List ℕ → Root
-root_line letter s = if starts letter s && is_at 18 tab s then root_of (hex_of 16 (take 16 (drop 2 s))) (decimal_of (drop 19 s)) else root.Not
+root_line letter s = if starts letter s && is_at 18 tab s then root_of (hex_of 16 (take 16 (drop 2 s))) (decimal_of (drop 19 s)) otherwise root.Not
 
 -- a node from its two bitmaps
 abbrev pub node_of : Number → Number → Node
@@ -63,7 +63,7 @@ node_of number.Not c = node.Not
 
 -- line l or r: a bitmap of 8 digits, a tab, a bitmap of 8 digits
 abbrev pub node_line : ℕ → List ℕ → Node
-node_line letter s = if starts letter s && is_at 10 tab s then node_of (hex_of 8 (take 8 (drop 2 s))) (hex_of 8 (drop 11 s)) else node.Not
+node_line letter s = if starts letter s && is_at 10 tab s then node_of (hex_of 8 (take 8 (drop 2 s))) (hex_of 8 (drop 11 s)) otherwise node.Not
 
 -- the four lines at the top, or the first bad one
 abbrev pub head_of : Number → Asked → Root → Root → Top
@@ -116,7 +116,7 @@ pub record Outcome : Type 0 where
 abbrev pub request_of : Head → Side → Side → Request
 request_of h l r =
     if eqb (length r.left_over) 0 then request.Good (record { head = h; left = length l.words; right = length r.words })
-    else request.Bad (5 + node_count l.words + node_count r.words)
+    otherwise request.Bad (5 + node_count l.words + node_count r.words)
 
 -- the words of the good node lines stand in the buffers, also where a later line is bad
 abbrev pub nodes_read : Head → Side → Side → List ℕ → List ℕ → Outcome
@@ -134,4 +134,4 @@ after_head (top.Good h) s left right =
 abbrev pub read_outcome : List ℕ → List ℕ → List ℕ → Outcome
 read_outcome s left right =
     if ltb 65536 (length s) then record { request = request.Bad 0; left = left; right = right }
-    else after_head (top_of s) (skip 4 s) left right
+    otherwise after_head (top_of s) (skip 4 s) left right

@@ -1,18 +1,18 @@
 -- Numbers as digits: how they are read and how they are written.
 use Rattle.std.specs.Prelude.{Bool, ◌&&◌, ◌||◌, List, [], ◌∷◌, ◌++◌, ℕ, zero, suc, ◌+◌, ◌-◌, ◌*◌, ◌/◌, ◌%◌, ◌<◌, ltb, leb, eqb, length}
 use Prim.Native.Char.{code}
-use Rattle.defs.specs.Basics.{if◌then◌else◌}
+use Rattle.defs.specs.Basics.{if◌then◌otherwise◌}
 use Rattle.text.specs.declared.Number.{Number}
 use Rattle.text.specs.declared.Number.TheVariants.{Is, Not}
 use Rattle.text.specs.Bytes.{is_at}
 
 -- the value of the digits 0 to 9 and a to f
 abbrev pub digit_of : ℕ → Number
-digit_of c = if leb (code "0") c && leb c (code "9") then Is (c - code "0") else if leb (code "a") c && leb c (code "f") then Is (c - code "a" + 10) else Not
+digit_of c = if leb (code "0") c && leb c (code "9") then Is (c - code "0") otherwise if leb (code "a") c && leb c (code "f") then Is (c - code "a" + 10) otherwise Not
 
 -- the number n with a digit behind it, where the digit is one of the base
 abbrev pub behind : ℕ → ℕ → Number → Number
-behind base n (Is d) = if ltb d base then Is (n * base + d) else Not
+behind base n (Is d) = if ltb d base then Is (n * base + d) otherwise Not
 behind base n Not = Not
 
 -- a number, and what f gives for it
@@ -27,7 +27,7 @@ numeral_of base n (c ∷ cs) = and_then (behind base n (digit_of c)) (λ m. nume
 
 -- a number that is no larger than most
 abbrev pub at_most : ℕ → Number → Number
-at_most most (Is n) = if leb n most then Is n else Not
+at_most most (Is n) = if leb n most then Is n otherwise Not
 at_most most Not = Not
 
 -- a digit stands behind a first 0
@@ -41,15 +41,15 @@ Below limit Not = Unit {0}
 
 -- a decimal number without leading zeros, at most 255
 abbrev pub decimal_of : List ℕ → Number
-decimal_of s = if eqb (length s) 0 || leading_zero s then Not else at_most 255 (numeral_of 10 0 s)
+decimal_of s = if eqb (length s) 0 || leading_zero s then Not otherwise at_most 255 (numeral_of 10 0 s)
 
 -- so many lowercase hex digits
 abbrev pub hex_of : ℕ → List ℕ → Number
-hex_of count s = if eqb (length s) count then numeral_of 16 0 s else Not
+hex_of count s = if eqb (length s) count then numeral_of 16 0 s otherwise Not
 
 -- a digit below 16 as a byte
 abbrev pub glyph_of : ℕ → ℕ
-glyph_of d = if ltb d 10 then code "0" + d else code "a" + (d - 10)
+glyph_of d = if ltb d 10 then code "0" + d otherwise code "a" + (d - 10)
 
 -- the last k digits of n, the highest first
 abbrev pub digits : ℕ → ℕ → ℕ → List ℕ
@@ -59,7 +59,7 @@ digits base (suc k) n = digits base k (n / base) ++ (glyph_of (n % base) ∷ [])
 -- how many decimal digits n has, looking at no more than k + 1
 abbrev pub places_in : ℕ → ℕ → ℕ
 places_in zero n = 1
-places_in (suc k) n = if ltb n 10 then 1 else suc (places_in k (n / 10))
+places_in (suc k) n = if ltb n 10 then 1 otherwise suc (places_in k (n / 10))
 
 -- how many decimal digits a number of 64 bits has
 unfoldable pub places_of : ℕ → ℕ

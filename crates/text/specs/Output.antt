@@ -1,7 +1,7 @@
 -- The lines that are written: document 01, "The text program".
 use Rattle.std.specs.Prelude.{List, [], ◌∷◌, ◌++◌, ◌≡◌, ℕ, zero, suc, ◌/◌, min, eqb, length, get_or, take, drop}
 use Prim.Native.Char.{code}
-use Rattle.defs.specs.Basics.{if◌then◌else◌}
+use Rattle.defs.specs.Basics.{if◌then◌otherwise◌}
 use Rattle.defs.specs.Lists.{missing, no_cover, record_words}
 use Rattle.defs.specs.declared.Answer.{Answer}
 use Rattle.text.specs.declared.Call.{Call}
@@ -11,7 +11,7 @@ use Rattle.text.specs.Numbers.{decimal_text, hex_text}
 
 -- the letter of a tag: L for 1, R for 2, and B for 3 and any other
 abbrev pub letter_of : ℕ → ℕ
-letter_of tag = if eqb tag 1 then code "L" else if eqb tag 2 then code "R" else code "B"
+letter_of tag = if eqb tag 1 then code "L" otherwise if eqb tag 2 then code "R" otherwise code "B"
 
 -- a tab and a number
 abbrev pub number_field : ℕ → List ℕ
@@ -19,7 +19,7 @@ number_field n = tab ∷ decimal_text n
 
 -- a tab and a number, or - where it is the mark of a missing one
 abbrev pub mark_field : ℕ → ℕ → List ℕ
-mark_field mark n = if eqb n mark then tab ∷ code "-" ∷ [] else number_field n
+mark_field mark n = if eqb n mark then tab ∷ code "-" ∷ [] otherwise number_field n
 
 -- tag, key and length of a record
 abbrev pub prefix_text : ℕ → ℕ → ℕ → List ℕ
@@ -44,7 +44,7 @@ end_line number beside = ((code "E" ∷ number_field number) ++ number_field bes
 
 -- how many of the records in the words are shown: those of a list that is done; equality and refusals show none
 abbrev pub shown_of : Call → Answer → List ℕ → ℕ
-shown_of (Listing op) a w = if eqb a.number 0 then min a.beside (length w / record_words) else 0
+shown_of (Listing op) a w = if eqb a.number 0 then min a.beside (length w / record_words) otherwise 0
 shown_of Equality a w = 0
 
 -- the whole output

@@ -4,7 +4,7 @@ use Rattle.std.proofs.Common.{sym, ◌∙◌, ap}
 use Rattle.std.proofs.Math.Option.{Option, none, some}
 use Rattle.defs.specs.declared.Prefix.{Prefix}
 use Rattle.defs.specs.Prefix.{leads, before}
-use Rattle.defs.specs.Basics.{if◌then◌else◌}
+use Rattle.defs.specs.Basics.{if◌then◌otherwise◌}
 use Rattle.defs.specs.Entries.{Entry, prefixes}
 use Rattle.defs.specs.Lists.{Record, value_of, cover_of, no_cover, put, merge, longest}
 use Rattle.defs.specs.Lemmas.{All, nil, more, split, not_both, all_imp, map_append, map_on}
@@ -73,7 +73,7 @@ module _ {P Q : Prefix → Type 0} (sep : (x y : Prefix) → P x → Q y → bef
 -- the longest entry over a seam
 pub longest_append : (c : Option Entry) (a b : List Entry) (p : Prefix) → longest c (a ++ b) p ≡ longest (longest c a p) b p
 longest_append c [] b p = refl
-longest_append c (e ∷ a) b p = longest_append (if leads e.at p then some e else c) a b p
+longest_append c (e ∷ a) b p = longest_append (if leads e.at p then some e otherwise c) a b p
 
 pub longest_none : (c : Option Entry) (a : List Entry) (p : Prefix) → All (λ x. leads x p ≡ false) (prefixes a) → longest c a p ≡ c
 longest_none c [] p h = refl
@@ -81,7 +81,7 @@ longest_none c (e ∷ a) p (more h hs) = rw h (longest_none c a p hs)
 
 pub longest_agree : (c : Option Entry) (a : List Entry) (p q : Prefix) → All (λ x. leads x p ≡ leads x q) (prefixes a) → longest c a p ≡ longest c a q
 longest_agree c [] p q h = refl
-longest_agree c (e ∷ a) p q (more h hs) = rw h (longest_agree (if leads e.at q then some e else c) a p q hs)
+longest_agree c (e ∷ a) p q (more h hs) = rw h (longest_agree (if leads e.at q then some e otherwise c) a p q hs)
 
 -- The seam: what stands before it is of kind P, what stands after it of kind Q; q leads all of kind Q and comes before none of kind P.
 module _ {P Q : Prefix → Type 0} (sep : (x y : Prefix) → P x → Q y → before x y ≡ true) (whole : (y : Prefix) → Q y → Whole y)

@@ -6,7 +6,7 @@ use Rattle.std.proofs.Math.Bool.{and-false}
 use native.Mathlib.Omega.{arith}
 use Rattle.std.proofs.lemmas.Bool.{eqb-false}
 use Rattle.defs.specs.declared.Prefix.{Prefix}
-use Rattle.defs.specs.Basics.{if◌then◌else◌, each}
+use Rattle.defs.specs.Basics.{if◌then◌otherwise◌, each}
 use Rattle.defs.specs.Prefix.{first, leads, deeper}
 use Rattle.defs.specs.Pool.{data_of, child_of, bit, data_bit}
 use Rattle.defs.specs.Entries.{Place, data_place, child_place, places_at, places}
@@ -38,7 +38,7 @@ half_of c k = let e : suc k ≡ k + 1 = omega arith in rw e (sym (shr-shr c k 1)
 
 -- places that hold nothing but at one child
 module _ {B : Type 0} (f : Place → List B) (data-none : (n v : ℕ) → n ≤ 4 → f (data_place n v) ≡ []) (c : ℕ) (others : (d : ℕ) → (c ≡ d → ⊥) → f (child_place d) ≡ []) where
-  only_below : (k n v : ℕ) → n + k ≡ 5 → each f (places_at k n v) ≡ (if eqb (c / 2 ^ k) v then f (child_place c) else [])
+  only_below : (k n v : ℕ) → n + k ≡ 5 → each f (places_at k n v) ≡ (if eqb (c / 2 ^ k) v then f (child_place c) otherwise [])
   only_below zero n v r =
       append-nil (f (child_place v))
       ∙ split (eqb c v) (λ e. rw (div-one c, e) (ap (λ (d : ℕ). f (child_place d)) (sym (eqb-true c v e)))) (λ e. rw (div-one c, e) (others v (eqb-false c v e)))
@@ -46,8 +46,8 @@ module _ {B : Type 0} (f : Place → List B) (data-none : (n v : ℕ) → n ≤ 
       rw (data-none n v (omega arith), each_append f (places_at k (suc n) (2 * v)) (places_at k (suc n) (2 * v + 1)), only_below k (suc n) (2 * v) (omega arith), only_below k (suc n) (2 * v + 1) (omega arith), half_of c k)
       (choose (c / 2 ^ k))
     where
-      choose : (d : ℕ) → (if eqb d (2 * v) then f (child_place c) else []) ++ (if eqb d (2 * v + 1) then f (child_place c) else [])
-          ≡ (if eqb (d / 2) v then f (child_place c) else [])
+      choose : (d : ℕ) → (if eqb d (2 * v) then f (child_place c) otherwise []) ++ (if eqb d (2 * v + 1) then f (child_place c) otherwise [])
+          ≡ (if eqb (d / 2) v then f (child_place c) otherwise [])
       choose d =
           let s = div-add-mod' d 2 in
           let m = mod-lt d {m = 2} (omega arith) in

@@ -7,7 +7,7 @@ use Rattle.std.proofs.lemmas.Bool.{not-true}
 use Rattle.defs.specs.declared.Prefix.{Prefix}
 use Rattle.defs.specs.declared.Operation.{Operation}
 use Rattle.defs.specs.declared.Operation.TheVariants.{Union, Intersection, Difference, CoveringDifference, CoveringUnion}
-use Rattle.defs.specs.Basics.{if◌then◌else◌, keep, each}
+use Rattle.defs.specs.Basics.{if◌then◌otherwise◌, keep, each}
 use Rattle.defs.specs.Prefix.{leads, before, same}
 use Rattle.defs.specs.Entries.{Entry, prefixes, view}
 use Rattle.defs.specs.Lists.{Record, missing, no_cover, cover_of, all_of, find, is_in, is_led, longest, plain, covered, records_of}
@@ -27,8 +27,8 @@ bare r =
       key = r.key;
       len = r.len;
       tag = r.tag;
-      left = if eqb (r.tag % 2) 1 then r.left else missing;
-      right = if eqb (r.tag / 2) 1 then r.right else missing;
+      left = if eqb (r.tag % 2) 1 then r.left otherwise missing;
+      right = if eqb (r.tag / 2) 1 then r.right otherwise missing;
       cover = no_cover;
     }
 
@@ -50,7 +50,7 @@ made CoveringUnion r = r
 
 -- what a list has of one of the covering union's records: none or one
 abbrev pub pick : Operation → Record → List Record
-pick op r = if takes op r then made op r ∷ [] else []
+pick op r = if takes op r then made op r ∷ [] otherwise []
 
 -- what a list has of the covering union's records, in order
 abbrev pub picks : Operation → List Record → List Record
@@ -70,7 +70,7 @@ has (some e) = true
 
 -- the longest entry where it is p's own, and otherwise none
 abbrev mine : Prefix → Option Entry → Option Entry
-mine p o = if own p o then o else none
+mine p o = if own p o then o otherwise none
 
 find_longest : (c : Option Entry) (a : List Entry) (p : Prefix) → Whole p → All Real (prefixes a) → Ascends (prefixes a) → own p c ≡ false
     → mine p (longest c a p) ≡ find p a

@@ -3,7 +3,7 @@ use Rattle.std.specs.Prelude.{◌≡◌, Bool, true, false, ◌&&◌, ◌||◌, 
 use Rattle.std.proofs.Math.Path.{refl}
 use Rattle.std.proofs.Common.{◌∙◌, ap, ⊎_elim, arith}
 use Rattle.defs.specs.declared.Prefix.{Prefix}
-use Rattle.defs.specs.Basics.{if◌then◌else◌, keep, each}
+use Rattle.defs.specs.Basics.{if◌then◌otherwise◌, keep, each}
 use Rattle.defs.specs.Prefix.{leads, deeper}
 use Rattle.defs.specs.Pool.{data_of, child_of, first_child, first_value, bit, rank, data_bit}
 use Rattle.defs.specs.Entries.{Entry, Place, data_place, child_place, places, held_at, entries_at, under}
@@ -36,13 +36,13 @@ on_path root q = leads root q || leads q root
 -- the child of a side's node at place c, of prefix q, where there is one and it lies on one path with the root
 abbrev pub child_in : List ℕ → Prefix → Node → ℕ → Prefix → Node
 child_in w root Absent c q = Absent
-child_in w root (At i) c q = if bit c (child_of w i) && on_path root q then At (first_child w i + rank c (child_of w i)) else Absent
+child_in w root (At i) c q = if bit c (child_of w i) && on_path root q then At (first_child w i + rank c (child_of w i)) otherwise Absent
 
 -- the value at the data place of n bits of value v, of prefix q, where there is one and the root leads it
 abbrev pub value_in : List ℕ → Prefix → Node → ℕ → ℕ → Prefix → Value
 value_in w root Absent n v q = Missing
 value_in w root (At i) n v q =
-    if bit (data_bit n v) (data_of w i) && leads root q then Is (first_value w i + rank (data_bit n v) (data_of w i)) else Missing
+    if bit (data_bit n v) (data_of w i) && leads root q then Is (first_value w i + rank (data_bit n v) (data_of w i)) otherwise Missing
 
 -- the entry of prefix q with a value, or none
 abbrev pub entry_at : Prefix → Value → List Entry

@@ -4,7 +4,7 @@ use Rattle.std.specs.Int.Count.{count_trailing_zeros}
 use Rattle.defs.specs.declared.Prefix.{Prefix}
 use Rattle.defs.specs.declared.Operation.{Operation}
 use Rattle.defs.specs.declared.Operation.TheVariants.{Union, Intersection, Difference, CoveringDifference, CoveringUnion}
-use Rattle.defs.specs.Basics.{if◌then◌else◌, each}
+use Rattle.defs.specs.Basics.{if◌then◌otherwise◌, each}
 use Rattle.defs.specs.Prefix.{deeper}
 use Rattle.defs.specs.Pool.{data_of, child_of, bit, data_bit}
 use Rattle.defs.specs.Entries.{Place, data_place, child_place, places}
@@ -167,7 +167,7 @@ step_at j f (data_place n v) = given (emit_at j f n v) f
 step_at j f (child_place k) =
     let q = deeper f.prefix 5 k in
     if leb 60 f.prefix.len then step.Skip f
-    else down_to j f q (child_in j.left.pool j.left.root f.left k q) (child_in j.right.pool j.right.root f.right k q)
+    otherwise down_to j f q (child_in j.left.pool j.left.root f.left k q) (child_in j.right.pool j.right.root f.right k q)
     (carried j.op (covers_at j f 5 k))
 
 -- the place of a level's lowest bit
@@ -177,7 +177,7 @@ place_of todo = get_or places (count_trailing_zeros 64 todo) (child_place 0)
 -- the next step at a level
 abbrev pub step_of : Job → Level → Step
 step_of j f =
-    if eqb f.todo 0 then step.Up else step_at j (without f (2 ^ count_trailing_zeros 64 f.todo)) (place_of f.todo)
+    if eqb f.todo 0 then step.Up otherwise step_at j (without f (2 ^ count_trailing_zeros 64 f.todo)) (place_of f.todo)
 
 -- the levels of nodes below a level
 abbrev pub below : Level → ℕ

@@ -4,14 +4,14 @@ use Rattle.std.proofs.Common.{◌∙◌, ap, arith, mod-lt, div-add-mod', eqb-tr
 use Rattle.std.proofs.Math.Nat.{mul-add-mod_self_right, mul-add-div_right}
 use Rattle.std.specs.Int.Count.{count_trailing_zeros}
 use Rattle.std.proofs.lemmas.Bool.{eqb-false}
-use Rattle.defs.specs.Basics.{if◌then◌else◌, keep, each}
+use Rattle.defs.specs.Basics.{if◌then◌otherwise◌, keep, each}
 use Rattle.defs.specs.Tidy.{word_of}
 use Rattle.defs.specs.Lemmas.{All, nil, more, split}
 
 -- those of a list whose bit is set
 abbrev pub picked : {A : Type 0} → ℕ → List A → List A
 picked t [] = []
-picked t (x ∷ xs) = if eqb (t % 2) 1 then x ∷ picked (t / 2) xs else picked (t / 2) xs
+picked t (x ∷ xs) = if eqb (t % 2) 1 then x ∷ picked (t / 2) xs otherwise picked (t / 2) xs
 
 pub zeros_odd : (k m : ℕ) → count_trailing_zeros (suc k) (m * 2 + 1) ≡ 0
 unfolding count_trailing_zeros
@@ -46,7 +46,7 @@ module _ {A : Type 0} where
   word_lt g [] = omega arith
   word_lt g (x ∷ l) = go (g x) (word_lt g l)
     where
-      go : (b : Bool) → word_of g l < 2 ^ length l → (if b then 1 else 0) + 2 * word_of g l < 2 ^ suc (length l)
+      go : (b : Bool) → word_of g l < 2 ^ length l → (if b then 1 otherwise 0) + 2 * word_of g l < 2 ^ suc (length l)
       go true h = omega arith
       go false h = omega arith
 

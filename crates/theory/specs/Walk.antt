@@ -9,7 +9,7 @@ use Rattle.std.proofs.lemmas.Bool.{eqb-false}
 use Rattle.defs.specs.declared.Prefix.{Prefix}
 use Rattle.defs.specs.declared.Operation.{Operation}
 use Rattle.defs.specs.declared.Operation.TheVariants.{Union, Intersection, Difference, CoveringDifference, CoveringUnion}
-use Rattle.defs.specs.Basics.{if◌then◌else◌, each}
+use Rattle.defs.specs.Basics.{if◌then◌otherwise◌, each}
 use Rattle.defs.specs.Prefix.{deeper}
 use Rattle.defs.specs.Entries.{Entry, Place, data_place, child_place, places, entries_at}
 use Rattle.defs.specs.Lists.{Record}
@@ -281,7 +281,7 @@ picked_most : {A : Type 0} (t : ℕ) (l : List A) → length (picked t l) ≤ le
 picked_most t [] = omega arith
 picked_most t (x ∷ l) = go (eqb (t % 2) 1) (picked_most (t / 2) l)
   where
-    go : (b : Bool) → length (picked (t / 2) l) ≤ length l → length (if b then x ∷ picked (t / 2) l else picked (t / 2) l) ≤ suc (length l)
+    go : (b : Bool) → length (picked (t / 2) l) ≤ length l → length (if b then x ∷ picked (t / 2) l otherwise picked (t / 2) l) ≤ suc (length l)
     go true h = omega arith
     go false h = omega arith
 

@@ -9,7 +9,7 @@ use Rattle.std.proofs.Math.Dec.{eqb}
 use borrow.Author.Tests.{eqb-true, eqb-false}
 use Rattle.std.proofs.Math.ListN.{length}
 use Rattle.defs.specs.declared.Prefix.{Prefix}
-use Rattle.defs.specs.Basics.{if◌then◌else◌, keep, up_to}
+use Rattle.defs.specs.Basics.{if◌then◌otherwise◌, keep, up_to}
 use Rattle.defs.specs.Prefix.{leads, same, deeper}
 use Rattle.defs.specs.Entries.{Entry, under, view}
 use Rattle.defs.specs.Tidy.{data_prefixes, child_prefixes, is_under, entries_in, children_of, word_of}
@@ -64,7 +64,7 @@ module _ (w : List ℕ) (root p : Prefix) (above : p.len + 5 ≤ root.len) where
             (is_false _ (λ h. eqb-false c d t (deeper_apart p whole 5 short c d root on-path h)))))
 
     -- so its child word has that one bit, or none where the view is empty
-    pub above_kids : c < 32 → child_word es p ≡ (if full es then 2 ^ c else 0)
+    pub above_kids : c < 32 → child_word es p ≡ (if full es then 2 ^ c otherwise 0)
     unfolding child_prefixes
     above_kids l =
         word_map (is_under es) (child_prefixes p)
@@ -75,12 +75,12 @@ module _ (w : List ℕ) (root p : Prefix) (above : p.len + 5 ≤ root.len) where
         one_bit : word_of (eqb c) (up_to 32) ≡ 2 ^ c
         one_bit = eqb-true (word_of (eqb c) (up_to 32)) (2 ^ c) (every_up_to (λ c. eqb (word_of (eqb c) (up_to 32)) (2 ^ c)) 32 c refl l)
 
-        go : (b : Bool) → word_of (λ d. eqb c d && b) (up_to 32) ≡ (if b then 2 ^ c else 0)
+        go : (b : Bool) → word_of (λ d. eqb c d && b) (up_to 32) ≡ (if b then 2 ^ c otherwise 0)
         go true = word_ext (λ d. eqb c d && true) (eqb c) (λ d. and-true (eqb c d)) (up_to 32) ∙ one_bit
         go false = word_zero (λ d. eqb c d && false) (all_true (λ d. and-false (eqb c d)) (up_to 32))
 
     -- and it has that one child, or none
-    pub above_children : c < 32 → children_of es p ≡ (if full es then deeper p 5 c ∷ [] else [])
+    pub above_children : c < 32 → children_of es p ≡ (if full es then deeper p 5 c ∷ [] otherwise [])
     unfolding child_prefixes
     above_children l =
         keep_map (is_under es) (deeper p 5) (up_to 32)
@@ -97,6 +97,6 @@ module _ (w : List ℕ) (root p : Prefix) (above : p.len + 5 ≤ root.len) where
             only (keep (eqb c) (up_to 32)) (all_imp (λ d h. sym (eqb-true c d h)) (all_kept (eqb c) (up_to 32)))
             (eqb-true (length (keep (eqb c) (up_to 32))) 1 (every_up_to (λ c. eqb (length (keep (eqb c) (up_to 32))) 1) 32 c refl l))
 
-        go : (b : Bool) → map (deeper p 5) (keep (λ d. eqb c d && b) (up_to 32)) ≡ (if b then deeper p 5 c ∷ [] else [])
+        go : (b : Bool) → map (deeper p 5) (keep (λ d. eqb c d && b) (up_to 32)) ≡ (if b then deeper p 5 c ∷ [] otherwise [])
         go true = ap (map (deeper p 5)) (keep_ext (λ d. eqb c d && true) (eqb c) (λ d. and-true (eqb c d)) (up_to 32) ∙ one_place)
         go false = ap (map (deeper p 5)) (keep_false (λ d. eqb c d && false) (all_true (λ d. and-false (eqb c d)) (up_to 32)))

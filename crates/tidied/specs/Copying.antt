@@ -4,7 +4,7 @@ use Rattle.std.proofs.Math.Path.{sym, ap}
 use Rattle.std.proofs.Common.{ap₂, ◌∙◌, ⊎_elim, arith, ltb-true, ltb-false, lt-ltb, le-ltb, length-append}
 use mathlib.Core.List.{List, [], ◌∷◌, ◌++◌, map}
 use Rattle.defs.specs.declared.Prefix.{Prefix}
-use Rattle.defs.specs.Basics.{if◌then◌else◌, any, each, up_to}
+use Rattle.defs.specs.Basics.{if◌then◌otherwise◌, any, each, up_to}
 use Rattle.defs.specs.Prefix.{leads, same, deeper, top}
 use Rattle.defs.specs.Pool.{data_of, child_of, first_child, first_value, bit, rank, ones, data_bit}
 use Rattle.defs.specs.Entries.{Entry, entries_at, all_entries, under, view}
@@ -50,7 +50,7 @@ any_word : {A : Type 0} (t : A → Bool) (xs : List A) → any t xs ≡ ltb 0 (w
 any_word t [] = refl
 any_word t (x ∷ xs) = go (t x) (any_word t xs)
   where
-    go : (b : Bool) → any t xs ≡ ltb 0 (word_of t xs) → (b || any t xs) ≡ ltb 0 ((if b then 1 else 0) + 2 * word_of t xs)
+    go : (b : Bool) → any t xs ≡ ltb 0 (word_of t xs) → (b || any t xs) ≡ ltb 0 ((if b then 1 otherwise 0) + 2 * word_of t xs)
     go true r = sym (lt-ltb 0 (1 + 2 * word_of t xs) (omega arith))
     go false r =
         r ∙ split (ltb 0 (word_of t xs))
@@ -120,7 +120,7 @@ module _ (w : List ℕ) (root : Prefix) (levels i : ℕ) (p : Prefix) (s : Seen 
   x = data_of w i
 
   view_data : (n v : ℕ) → n < 5 → v < 2 ^ n
-      → onto es (deeper p n v) ≡ (if taken w root i p (data_bit n v) then record { at = deeper p n v; value = first_value w i + rank (data_bit n v) x } ∷ [] else [])
+      → onto es (deeper p n v) ≡ (if taken w root i p (data_bit n v) then record { at = deeper p n v; value = first_value w i + rank (data_bit n v) x } ∷ [] otherwise [])
   view_data n v h l =
       keep_swap (λ e. same (deeper p n v) e.at) (λ e. leads root e.at) (all_entries w)
       ∙ ap (under root) (seen_data w levels i p s n v h l)
@@ -138,15 +138,15 @@ module _ (w : List ℕ) (root : Prefix) (levels i : ℕ) (p : Prefix) (s : Seen 
       ∙ sym (word_map (taken w root i p) (up_to 31))
 
   -- the values, in the order of the data bits
-  pub view_values : map (λ e. e.value) (entries_in es p) ≡ each (λ b. if taken w root i p b then (first_value w i + rank b x) ∷ [] else []) (up_to 31)
+  pub view_values : map (λ e. e.value) (entries_in es p) ≡ each (λ b. if taken w root i p b then (first_value w i + rank b x) ∷ [] otherwise []) (up_to 31)
   unfolding data_prefixes
   view_values =
       map_each (λ (e : Entry). e.value) (onto es) (data_prefixes p)
       ∙ each_join (λ q. map (λ (e : Entry). e.value) (onto es q)) (data_prefixes p)
       ∙ ap (each (λ l. l))
-      (map_rows (λ q. map (λ (e : Entry). e.value) (onto es q)) (deeper p) (λ b. if taken w root i p b then (first_value w i + rank b x) ∷ [] else []) data_bit 5
+      (map_rows (λ q. map (λ (e : Entry). e.value) (onto es q)) (deeper p) (λ b. if taken w root i p b then (first_value w i + rank b x) ∷ [] otherwise []) data_bit 5
       (λ n v h l. ap (map (λ (e : Entry). e.value)) (view_data n v h l) ∙ split (taken w root i p (data_bit n v)) (λ b. rw b) (λ b. rw b)))
-      ∙ sym (each_join (λ b. if taken w root i p b then (first_value w i + rank b x) ∷ [] else []) (up_to 31))
+      ∙ sym (each_join (λ b. if taken w root i p b then (first_value w i + rank b x) ∷ [] otherwise []) (up_to 31))
 
   -- the child word
   pub view_kids : child_word es p ≡ word_of (kept w root levels i p) (up_to 32)

@@ -5,7 +5,7 @@ use Rattle.std.proofs.Common.{sym, ◌∙◌, subst, append-nil, arith, ltb-true
 use Prim.Native.Nat.{ℕ, zero, suc, ◌+◌, ◌*◌, ◌^◌, ◌≤◌}
 use Rattle.std.proofs.Math.ListN.{length, length-map}
 use Rattle.defs.specs.declared.Prefix.{Prefix}
-use Rattle.defs.specs.Basics.{if◌then◌else◌, keep, each, up_to}
+use Rattle.defs.specs.Basics.{if◌then◌otherwise◌, keep, each, up_to}
 use Rattle.defs.specs.Prefix.{leads, deeper, top}
 use Rattle.defs.specs.Entries.{Entry, Place, data_place, child_place, places_at, places, under}
 use Rattle.defs.specs.Tidy.{data_prefixes, child_prefixes, is_under, entries_in, children_of, nodes_from, nodes_of, tidy_values}
@@ -87,10 +87,10 @@ module _ (es : List Entry) (s : Sound top es) where
   each_used : (qs : List Prefix) → each (λ q. under q es) (keep (is_under es) qs) ≡ each (λ q. under q es) qs
   each_used [] = refl
   each_used (q ∷ qs) =
-      ap (λ (b : Bool). each (λ q. under q es) (if b then q ∷ keep (is_under es) qs else keep (is_under es) qs)) (any_full (λ e. leads q e.at) es) ∙ go (under q es) refl (each_used qs)
+      ap (λ (b : Bool). each (λ q. under q es) (if b then q ∷ keep (is_under es) qs otherwise keep (is_under es) qs)) (any_full (λ e. leads q e.at) es) ∙ go (under q es) refl (each_used qs)
     where
       go : (l : List Entry) → l ≡ under q es → each (λ q. under q es) (keep (is_under es) qs) ≡ each (λ q. under q es) qs
-          → each (λ q. under q es) (if full l then q ∷ keep (is_under es) qs else keep (is_under es) qs) ≡ under q es ++ each (λ q. under q es) qs
+          → each (λ q. under q es) (if full l then q ∷ keep (is_under es) qs otherwise keep (is_under es) qs) ≡ under q es ++ each (λ q. under q es) qs
       go [] e r = r ∙ ap (◌++ each (λ q. under q es) qs) e
       go (x ∷ l) e r = ap (under q es ++◌) r
 

@@ -2,7 +2,7 @@
 use Rattle.std.specs.Prelude.{◌≡◌, refl, Bool, true, false, ◌&&◌, List, [], ◌∷◌, ◌++◌, ℕ, zero, suc, ◌+◌, ◌^◌, ◌≤◌, ◌<◌, ltb, eqb, length}
 use Rattle.std.proofs.Common.{sym, ap, ap₂, ◌∙◌, append-nil, arith, not-suc-le-zero, ltb-true, ltb-false, eqb-true, eq-eqb, ⊎_elim, le_of_suc-le-suc, eq-or-lt_of_le}
 use Rattle.defs.specs.declared.Prefix.{Prefix}
-use Rattle.defs.specs.Basics.{if◌then◌else◌, keep, every, each, up_to}
+use Rattle.defs.specs.Basics.{if◌then◌otherwise◌, keep, every, each, up_to}
 use Rattle.defs.specs.Prefix.{leads, same, deeper}
 use Rattle.defs.specs.Pool.{data_of, child_of, first_child, first_value, bit, rank, data_bit}
 use Rattle.defs.specs.Entries.{Entry, Place, data_place, child_place, places, held_at, entries_at, all_entries, under, prefixes}
@@ -161,7 +161,7 @@ module _ (w : List ℕ) where
     -- the entry of a data place's prefix
     pub seen_data : (n v : ℕ) → n < 5 → v < 2 ^ n
         → onto (all_entries w) (deeper p n v)
-        ≡ (if bit (data_bit n v) (data_of w i) then record { at = deeper p n v; value = first_value w i + rank (data_bit n v) (data_of w i) } ∷ [] else [])
+        ≡ (if bit (data_bit n v) (data_of w i) then record { at = deeper p n v; value = first_value w i + rank (data_bit n v) (data_of w i) } ∷ [] otherwise [])
     seen_data n v h l =
         sym (keep_within (λ e. same q e.at) (λ e. leads p e.at) (all_entries w)
         (λ (e : Entry) t. ap (leads p) (sym (same_says q e.at t)) ∙ leads_deeper p s.deep.0 n (omega (arith, small)) v l))
@@ -173,7 +173,7 @@ module _ (w : List ℕ) where
 
     -- what is below a child's prefix
     pub seen_child : (c : ℕ) → c < 32
-        → under (deeper p 5 c) (all_entries w) ≡ (if bit c (child_of w i) then entries_at w levels (first_child w i + rank c (child_of w i)) (deeper p 5 c) else [])
+        → under (deeper p 5 c) (all_entries w) ≡ (if bit c (child_of w i) then entries_at w levels (first_child w i + rank c (child_of w i)) (deeper p 5 c) otherwise [])
     seen_child c l = split (ltb 64 (p.len + 5)) last inside
       where
         q : Prefix

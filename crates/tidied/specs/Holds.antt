@@ -8,7 +8,7 @@ use Rattle.std.proofs.Math.Nat.{pow-succ'}
 use Rattle.std.proofs.Math.ListN.{get_or, get_or-map}
 use Rattle.std.proofs.Math.Seq.{get_or-append_seam}
 use Rattle.defs.specs.declared.Prefix.{Prefix}
-use Rattle.defs.specs.Basics.{if◌then◌else◌, keep, each}
+use Rattle.defs.specs.Basics.{if◌then◌otherwise◌, keep, each}
 use Rattle.defs.specs.Prefix.{leads, before, same, deeper, top}
 use Rattle.defs.specs.Pool.{data_of, child_of, first_child, first_value, bit, rank, data_bit}
 use Rattle.defs.specs.Entries.{Entry, Place, data_place, child_place, places_at, places, held_at, entries_at, all_entries, under, view, prefixes}
@@ -53,10 +53,10 @@ alone q (x ∷ es) (then_after h k) =
 pub count_onto : (es : List Entry) → Ascends (prefixes es) → (qs : List Prefix) → length (each (onto es) qs) ≡ length (keep (is_here es) qs)
 count_onto es a [] = refl
 count_onto es a (q ∷ qs) =
-    go (onto es q) (alone q es a) (count_onto es a qs) ∙ ap (λ (b : Bool). length (if b then q ∷ keep (is_here es) qs else keep (is_here es) qs)) (sym (any_full (λ e. same q e.at) es))
+    go (onto es q) (alone q es a) (count_onto es a qs) ∙ ap (λ (b : Bool). length (if b then q ∷ keep (is_here es) qs otherwise keep (is_here es) qs)) (sym (any_full (λ e. same q e.at) es))
   where
     go : (l : List Entry) → Alone q l → length (each (onto es) qs) ≡ length (keep (is_here es) qs)
-        → length (l ++ each (onto es) qs) ≡ length (if full l then q ∷ keep (is_here es) qs else keep (is_here es) qs)
+        → length (l ++ each (onto es) qs) ≡ length (if full l then q ∷ keep (is_here es) qs otherwise keep (is_here es) qs)
     go _ nothing r = r
     go _ (only v) r = ap suc r
 
@@ -105,7 +105,7 @@ module _ (es : List Entry) (s : Sound top es) where
   data_held : (below : ℕ → Prefix → List Entry) (j : ℕ) (d : Prefix) → j < length N → (n v : ℕ) → n < 5 → v < 2 ^ n
       → map fixed (held_at pool below j (get_or N j d) (data_place n v)) ≡ onto es (deeper (get_or N j d) n v)
   data_held below j d h n v nl vl =
-      ap (λ (b : Bool). map fixed (if b then here ∷ [] else [])) bit_set
+      ap (λ (b : Bool). map fixed (if b then here ∷ [] otherwise [])) bit_set
       ∙ go (onto es q) (alone q es s.ascend) refl
     where
       p : Prefix
@@ -135,7 +135,7 @@ module _ (es : List Entry) (s : Sound top es) where
       index : first_value pool j + rank b (data_of pool j) ≡ length (each (entries_in es) (take j N)) + length (keep (is_here es) (take b D))
       index = ap₂ ◌+◌ (w.first_v ∙ zero-add _) (ap (rank b) w.datas ∙ word_rank (is_here es) D b)
 
-      go : (l : List Entry) → Alone q l → l ≡ onto es q → map fixed (if full l then here ∷ [] else []) ≡ l
+      go : (l : List Entry) → Alone q l → l ≡ onto es q → map fixed (if full l then here ∷ [] otherwise []) ≡ l
       go _ nothing e = refl
       go _ (only v) e =
           let f = value_at j d h b bq.0 v (subst (λ (x : Prefix). onto es x ≡ record { at = x; value = v } ∷ []) (sym bq.1) (sym e)) in
@@ -196,7 +196,7 @@ module _ (es : List Entry) (s : Sound top es) where
     child_held : (c : ℕ) → c < 32 → Whole (deeper p 5 c) → map fixed (held (child_place c)) ≡ under (deeper p 5 c) es
     child_held c l u =
         let k = kid_at_lem j h c l in
-        ap (λ (b : Bool). map fixed (if b then below_it else [])) (k.0 ∙ any_full (λ e. leads q e.at) es) ∙ go (under q es) refl (λ t. k.1 (any_full (λ e. leads q e.at) es ∙ t))
+        ap (λ (b : Bool). map fixed (if b then below_it otherwise [])) (k.0 ∙ any_full (λ e. leads q e.at) es) ∙ go (under q es) refl (λ t. k.1 (any_full (λ e. leads q e.at) es ∙ t))
       where
         q : Prefix
         q = deeper p 5 c
@@ -207,7 +207,7 @@ module _ (es : List Entry) (s : Sound top es) where
         below_it : List Entry
         below_it = entries_at pool levels i q
 
-        go : (m : List Entry) → m ≡ under q es → (full m ≡ true → (i < length N) × (get_or N i top ≡ q)) → map fixed (if full m then below_it else []) ≡ m
+        go : (m : List Entry) → m ≡ under q es → (full m ≡ true → (i < length N) × (get_or N i top ≡ q)) → map fixed (if full m then below_it otherwise []) ≡ m
         go [] f g = refl
         go (x ∷ xs) f g = let k = g refl in ih i q k.0 k.1 u (omega arith) ∙ sym f
 

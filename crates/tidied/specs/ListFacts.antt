@@ -6,7 +6,7 @@ use Rattle.std.proofs.Math.Nat.{pow-succ'}
 use Rattle.std.proofs.Math.ListN.{get_or-append}
 use Rattle.std.proofs.lemmas.List.{length-map, get_or_at}
 use Rattle.std.proofs.Math.Seq.{split_at}
-use Rattle.defs.specs.Basics.{if◌then◌else◌, keep, any, each, up_to}
+use Rattle.defs.specs.Basics.{if◌then◌otherwise◌, keep, any, each, up_to}
 use Rattle.defs.specs.Pool.{data_bit}
 use Rattle.defs.specs.Lemmas.{All, nil, more, split, all_append, all_imp, map_append, map_map, map_on, each_append, each_on}
 
@@ -153,14 +153,14 @@ module _ {A : Type 0} where
   keep_rank t (x ∷ xs) (suc c) d h e = go (t x) (keep_rank t xs c d (le_of_suc-le-suc h) e)
     where
       go : (b : Bool) → (length (keep t (take c xs)) < length (keep t xs)) × (get_or (keep t xs) (length (keep t (take c xs))) d ≡ get_or xs c d)
-          → (length (if b then x ∷ keep t (take c xs) else keep t (take c xs)) < length (if b then x ∷ keep t xs else keep t xs))
-          × (get_or (if b then x ∷ keep t xs else keep t xs) (length (if b then x ∷ keep t (take c xs) else keep t (take c xs))) d ≡ get_or xs c d)
+          → (length (if b then x ∷ keep t (take c xs) otherwise keep t (take c xs)) < length (if b then x ∷ keep t xs otherwise keep t xs))
+          × (get_or (if b then x ∷ keep t xs otherwise keep t xs) (length (if b then x ∷ keep t (take c xs) otherwise keep t (take c xs))) d ≡ get_or xs c d)
       go true r = (omega arith, r.1)
       go false r = r
 
   pub keep_ext : (f g : A → Bool) → ((x : A) → f x ≡ g x) → (a : List A) → keep f a ≡ keep g a
   keep_ext f g h [] = refl
-  keep_ext f g h (x ∷ a) = ap₂ (λ (b : Bool) (l : List A). if b then x ∷ l else l) (h x) (keep_ext f g h a)
+  keep_ext f g h (x ∷ a) = ap₂ (λ (b : Bool) (l : List A). if b then x ∷ l otherwise l) (h x) (keep_ext f g h a)
 
   pub all_at : {P : A → Type 0} {l : List A} → All P l → (i : ℕ) (d : A) → i < length l → P (get_or l i d)
   all_at nil i d h = absurd (not-suc-le-zero h)
@@ -191,7 +191,7 @@ module _ {A : Type 0} where
   keep_swap a b (x ∷ xs) = go (a x) (b x) refl refl (keep_swap a b xs)
     where
       go : (c d : Bool) → a x ≡ c → b x ≡ d → keep a (keep b xs) ≡ keep b (keep a xs)
-          → keep a (if d then x ∷ keep b xs else keep b xs) ≡ keep b (if c then x ∷ keep a xs else keep a xs)
+          → keep a (if d then x ∷ keep b xs otherwise keep b xs) ≡ keep b (if c then x ∷ keep a xs otherwise keep a xs)
       go true true e f r = rw (e, f) (ap (x ∷◌) r)
       go true false e f r = rw f r
       go false true e f r = rw e r

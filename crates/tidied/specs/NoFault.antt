@@ -9,7 +9,7 @@ use Rattle.std.proofs.lemmas.Bool.{lt-leb}
 use Rattle.std.proofs.Math.ListN.{length}
 use Rattle.std.proofs.Math.Seq.{get_or-append_seam, take-append_seam}
 use Rattle.defs.specs.declared.Prefix.{Prefix}
-use Rattle.defs.specs.Basics.{if◌then◌else◌, each}
+use Rattle.defs.specs.Basics.{if◌then◌otherwise◌, each}
 use Rattle.defs.specs.Prefix.{leads, same, deeper, top}
 use Rattle.defs.specs.Pool.{node_count, data_of, child_of, first_child, first_value, ones}
 use Rattle.defs.specs.Entries.{Entry}
@@ -150,7 +150,7 @@ module _ (es : List Entry) (s : Sound top es) (width : ℕ) (fits : All (λ e. e
       let n = node_ok pre p (ps ++ nodes_from es k (ks ++ (kids p ++ each kids ps))) e in
       let assoc = sym (append_assoc ks (kids p) (each kids ps)) in
       let next = level k done ps (ks ++ kids p) (pre ++ one) (e ∙ ap (λ (x : List Prefix). pre ++ (p ∷ (ps ++ nodes_from es k x))) assoc ∙ sym (append_assoc pre one _)) in
-      ap (λ (f : ℕ). (if ltb 0 f then record { number = f; node = i } else from_here k p ps ks pre).number) n.0
+      ap (λ (f : ℕ). (if ltb 0 f then record { number = f; node = i } otherwise from_here k p ps ks pre).number) n.0
       ∙ args (ap (λ (x : List Prefix). length (ps ++ nodes_from es k x)) assoc)
       (let z : suc i ≡ length (pre ++ one) = omega (arith, length-append pre one) in z)
       (append_assoc (lens ps) (lens ks) _

@@ -6,7 +6,7 @@ use mathlib.Core.List.{List, [], ◌∷◌, ◌++◌, map}
 use Prim.Native.Nat.{ℕ, suc, ◌+◌, ◌^◌, ◌≤◌, ◌<◌}
 use Rattle.std.proofs.lemmas.List.{length-map}
 use Rattle.defs.specs.declared.Prefix.{Prefix}
-use Rattle.defs.specs.Basics.{if◌then◌else◌, each, up_to}
+use Rattle.defs.specs.Basics.{if◌then◌otherwise◌, each, up_to}
 use Rattle.defs.specs.Prefix.{same, deeper, top}
 use Rattle.defs.specs.Pool.{node_count, data_of, first_value, bit, rank, ones, data_bit}
 use Rattle.defs.specs.Entries.{Entry, all_entries, view}
@@ -57,7 +57,7 @@ module _ (w : List ℕ) (levels i : ℕ) (p : Prefix) (s : Seen w (suc levels) i
       ∙ ap (run (first_value w i)) (sym (rank_all 31 31 x small (omega arith)) ∙ rank_all 31 32 x small (omega arith))
     where
       g : ℕ → List ℕ
-      g b = if bit b x then (first_value w i + rank b x) ∷ [] else []
+      g b = if bit b x then (first_value w i + rank b x) ∷ [] otherwise []
 
   pub in_count : length (entries_in E p) ≡ ones x
   in_count = sym (length-map (entries_in E p) (λ e. e.value)) ∙ ap length in_values ∙ length_run (first_value w i) (ones x)

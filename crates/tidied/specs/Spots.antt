@@ -9,7 +9,7 @@ use Rattle.std.proofs.lemmas.Bool.{eqb-false}
 use Rattle.std.specs.Int.Count.{ones_in}
 use Rattle.std.proofs.lemmas.List.{length-map}
 use Rattle.defs.specs.declared.Prefix.{Prefix}
-use Rattle.defs.specs.Basics.{if◌then◌else◌, keep, each, up_to}
+use Rattle.defs.specs.Basics.{if◌then◌otherwise◌, keep, each, up_to}
 use Rattle.defs.specs.Prefix.{leads, deeper, top}
 use Rattle.defs.specs.Pool.{node_count, data_of, child_of, first_child, first_value, bit, rank, ones}
 use Rattle.defs.specs.Entries.{Entry, all_entries, under, view}
@@ -42,7 +42,7 @@ kid_at w s c = record { node = first_child w s.node + rank c (child_of w s.node)
 
 -- the same where there is one
 abbrev pub kids_at : List ℕ → Spot → ℕ → List Spot
-kids_at w s c = if bit c (child_of w s.node) then kid_at w s c ∷ [] else []
+kids_at w s c = if bit c (child_of w s.node) then kid_at w s c ∷ [] otherwise []
 
 -- the children of a node
 unfoldable pub spots_under : List ℕ → Spot → List Spot
@@ -68,7 +68,7 @@ ids = map (λ s. s.node)
 -- ---- their numbers
 
 -- a bit, as 0 or 1
-bit_of : (b x : ℕ) → (if bit b x then 1 else 0) ≡ x / 2 ^ b % 2
+bit_of : (b x : ℕ) → (if bit b x then 1 otherwise 0) ≡ x / 2 ^ b % 2
 bit_of b x =
     split (bit b x) (λ e. rw e (sym (eqb-true (x / 2 ^ b % 2) 1 e)))
     (λ e. let n = eqb-false (x / 2 ^ b % 2) 1 e in rw e (let z : 0 ≡ x / 2 ^ b % 2 = small (x / 2 ^ b) n in z))
@@ -77,7 +77,7 @@ bit_of b x =
     small y n = omega arith
 
 -- the numbers that a word's bits give, one after the other
-pub rank_run : (f x m : ℕ) → each (λ c. if bit c x then (f + rank c x) ∷ [] else []) (up_to m) ≡ run f (rank m x)
+pub rank_run : (f x m : ℕ) → each (λ c. if bit c x then (f + rank c x) ∷ [] otherwise []) (up_to m) ≡ run f (rank m x)
 unfolding ones_in
 rank_run f x zero = refl
 rank_run f x (suc m) =
@@ -87,9 +87,9 @@ rank_run f x (suc m) =
     ∙ ap (run f) (ap (rank m x +◌) (bit_of m x) ∙ sym (rank_suc m x))
   where
     g : ℕ → List ℕ
-    g c = if bit c x then (f + rank c x) ∷ [] else []
+    g c = if bit c x then (f + rank c x) ∷ [] otherwise []
 
-    go : (b : Bool) → run f (rank m x) ++ (if b then (f + rank m x) ∷ [] else []) ≡ run f (rank m x + (if b then 1 else 0))
+    go : (b : Bool) → run f (rank m x) ++ (if b then (f + rank m x) ∷ [] otherwise []) ≡ run f (rank m x + (if b then 1 otherwise 0))
     go true = run_append f (rank m x) 1
     go false = append-nil (run f (rank m x)) ∙ ap (run f) (sym (add-zero (rank m x)))
 
@@ -97,7 +97,7 @@ pub ids_under : (w : List ℕ) (s : Spot) → ids (spots_under w s) ≡ run (fir
 unfolding spots_under
 ids_under w s =
     map_each (λ (t : Spot). t.node) (kids_at w s) (up_to 32)
-    ∙ each_ext (λ c. ids (kids_at w s c)) (λ c. if bit c x then (f + rank c x) ∷ [] else []) (λ c. split (bit c x) (λ b. rw b) (λ b. rw b)) (up_to 32)
+    ∙ each_ext (λ c. ids (kids_at w s c)) (λ c. if bit c x then (f + rank c x) ∷ [] otherwise []) (λ c. split (bit c x) (λ b. rw b) (λ b. rw b)) (up_to 32)
     ∙ rank_run f x 32
   where
     x : ℕ
@@ -327,8 +327,8 @@ module _ (w : List ℕ) (root : Prefix) where
 
       go : (a b : Bool) → is_under es q ≡ a → (a ≡ true → b ≡ true)
           → keep (is_under es) (map (deeper s.at 5) cs) ≡ map (λ t. t.at) (keep used (each (kids_at w s) cs))
-          → (if a then q ∷ keep (is_under es) (map (deeper s.at 5) cs) else keep (is_under es) (map (deeper s.at 5) cs))
-          ≡ map (λ t. t.at) (keep used ((if b then kid_at w s c ∷ [] else []) ++ each (kids_at w s) cs))
+          → (if a then q ∷ keep (is_under es) (map (deeper s.at 5) cs) otherwise keep (is_under es) (map (deeper s.at 5) cs))
+          ≡ map (λ t. t.at) (keep used ((if b then kid_at w s c ∷ [] otherwise []) ++ each (kids_at w s) cs))
       go true true e f r = rw e (ap (q ∷◌) r)
       go true false e f r = not_both (f refl) refl
       go false true e f r = rw e r

@@ -11,7 +11,7 @@ use Rattle.std.specs.Int.Count.{ones_in}
 use Rattle.std.proofs.Math.ListN.{length}
 use Rattle.std.proofs.lemmas.List.{length-map}
 use Rattle.std.proofs.lemmas.Bool.{eqb-false}
-use Rattle.defs.specs.Basics.{if◌then◌else◌, keep, up_to}
+use Rattle.defs.specs.Basics.{if◌then◌otherwise◌, keep, up_to}
 use Rattle.defs.specs.Pool.{bit, rank, ones}
 use Rattle.defs.specs.Tidy.{word_of}
 use Rattle.defs.specs.Lemmas.{All, nil, more, all_map, all_true}
@@ -22,14 +22,14 @@ module _ {A : Type 0} (t : A → Bool) where
   word_half : (x : A) (xs : List A) → word_of t (x ∷ xs) / 2 ≡ word_of t xs
   word_half x xs = go (t x)
     where
-      go : (b : Bool) → ((if b then 1 else 0) + 2 * word_of t xs) / 2 ≡ word_of t xs
+      go : (b : Bool) → ((if b then 1 otherwise 0) + 2 * word_of t xs) / 2 ≡ word_of t xs
       go true = omega arith
       go false = omega arith
 
-  word_low : (x : A) (xs : List A) → word_of t (x ∷ xs) % 2 ≡ (if t x then 1 else 0)
+  word_low : (x : A) (xs : List A) → word_of t (x ∷ xs) % 2 ≡ (if t x then 1 otherwise 0)
   word_low x xs = go (t x)
     where
-      go : (b : Bool) → ((if b then 1 else 0) + 2 * word_of t xs) % 2 ≡ (if b then 1 else 0)
+      go : (b : Bool) → ((if b then 1 otherwise 0) + 2 * word_of t xs) % 2 ≡ (if b then 1 otherwise 0)
       go true = omega arith
       go false = omega arith
 
@@ -38,7 +38,7 @@ module _ {A : Type 0} (t : A → Bool) where
   word_bit [] b d h = absurd (not-suc-le-zero h)
   word_bit (x ∷ xs) zero d h = bit_zero (word_of t (x ∷ xs)) ∙ ap (λ (y : ℕ). eqb y 1) (word_low x xs) ∙ go (t x)
     where
-      go : (b : Bool) → eqb (if b then 1 else 0) 1 ≡ b
+      go : (b : Bool) → eqb (if b then 1 otherwise 0) 1 ≡ b
       go true = refl
       go false = refl
   word_bit (x ∷ xs) (suc b) d h = bit_suc b _ ∙ ap (bit b) (word_half x xs) ∙ word_bit xs b d (le_of_suc-le-suc h)
@@ -50,7 +50,7 @@ module _ {A : Type 0} (t : A → Bool) where
   word_rank [] (suc b) = ap (0 +◌) (rank_zero b)
   word_rank (x ∷ xs) (suc b) = ap₂ ◌+◌ (word_low x xs) (ap (ones_in b) (word_half x xs) ∙ word_rank xs b) ∙ go (t x)
     where
-      go : (c : Bool) → (if c then 1 else 0) + length (keep t (take b xs)) ≡ length (if c then x ∷ keep t (take b xs) else keep t (take b xs))
+      go : (c : Bool) → (if c then 1 otherwise 0) + length (keep t (take b xs)) ≡ length (if c then x ∷ keep t (take b xs) otherwise keep t (take b xs))
       go true = omega arith
       go false = omega arith
 
@@ -61,7 +61,7 @@ module _ {A : Type 0} (t : A → Bool) where
   word_lt [] = omega arith
   word_lt (x ∷ xs) = go (t x) (word_lt xs)
     where
-      go : (b : Bool) → word_of t xs < 2 ^ length xs → (if b then 1 else 0) + 2 * word_of t xs < 2 ^ suc (length xs)
+      go : (b : Bool) → word_of t xs < 2 ^ length xs → (if b then 1 otherwise 0) + 2 * word_of t xs < 2 ^ suc (length xs)
       go true h = omega (arith, pow-succ' 2 (length xs))
       go false h = omega (arith, pow-succ' 2 (length xs))
 
@@ -72,7 +72,7 @@ module _ {A : Type 0} (t : A → Bool) where
 
   word_front : (xs : List A) {ys : List A} → All (λ y. t y ≡ false) ys → word_of t (xs ++ ys) ≡ word_of t xs
   word_front [] h = word_zero h
-  word_front (x ∷ xs) h = ap (λ (n : ℕ). (if t x then 1 else 0) + 2 * n) (word_front xs h)
+  word_front (x ∷ xs) h = ap (λ (n : ℕ). (if t x then 1 otherwise 0) + 2 * n) (word_front xs h)
 
   -- a word of rows of which those from the m-th on have no pass
   pub word_rows : (f : ℕ → ℕ → A) (m k : ℕ) → m ≤ k → ((n v : ℕ) → m ≤ n → n < k → t (f n v) ≡ false) → word_of t (rows f k) < 2 ^ length (rows f m)
@@ -98,13 +98,13 @@ word_is t (x ∷ xs) d y h g =
     let r : y / 2 ≡ word_of t xs = word_is t xs d (y / 2) (let l : y < 2 ^ suc (length xs) = h in omega (arith, pow-succ' 2 (length xs))) (λ b l. sym (bit_suc b y) ∙ g (suc b) (omega arith)) in
     go (t x) (sym (bit_zero y) ∙ g 0 (omega arith)) r
   where
-    go : (b : Bool) → eqb (y % 2) 1 ≡ b → y / 2 ≡ word_of t xs → y ≡ (if b then 1 else 0) + 2 * word_of t xs
+    go : (b : Bool) → eqb (y % 2) 1 ≡ b → y / 2 ≡ word_of t xs → y ≡ (if b then 1 otherwise 0) + 2 * word_of t xs
     go true e r = omega (arith, eqb-true (y % 2) 1 e)
     go false e r = let n = eqb-false (y % 2) 1 e in ⊎_elim (λ z. absurd (n z)) (λ z. omega arith) (eq-or-lt_of_le (let l : y % 2 ≤ 1 = omega arith in l))
 
 pub word_map : {A : Type 0} (t : A → Bool) (xs : List A) → word_of t xs ≡ word_of (λ b. b) (map t xs)
 word_map t [] = refl
-word_map t (x ∷ xs) = ap (λ (n : ℕ). (if t x then 1 else 0) + 2 * n) (word_map t xs)
+word_map t (x ∷ xs) = ap (λ (n : ℕ). (if t x then 1 otherwise 0) + 2 * n) (word_map t xs)
 
 -- a word of m bits, by its bits
 pub word_bits : (m y : ℕ) → y < 2 ^ m → y ≡ word_of (λ b. b) (map (λ b. bit b y) (up_to m))

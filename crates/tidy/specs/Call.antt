@@ -7,7 +7,7 @@ use Rattle.std.proofs.lemmas.List.{length-map}
 use Rattle.std.proofs.lemmas.Bool.{eqb-false}
 use Rattle.defs.specs.declared.Prefix.{Prefix}
 use Rattle.defs.specs.declared.Answer.{Answer}
-use Rattle.defs.specs.Basics.{if◌then◌else◌, keep, each, up_to}
+use Rattle.defs.specs.Basics.{if◌then◌otherwise◌, keep, each, up_to}
 use Rattle.defs.specs.Pool.{node_count, data_of, first_value, bit, rank, ones}
 use Rattle.defs.specs.Entries.{Entry, view}
 use Rattle.defs.specs.Check.{fault_of}
@@ -94,9 +94,9 @@ module _ (w : List ℕ) (root : Prefix) (s : Sane w) where
       let t = taken w root i p in
       let word = view_word w root r.0 i p r.1 in
       view_values w root r.0 i p r.1
-      ∙ each_on (λ b. if t b then (first_value w i + rank b (data_of w i)) ∷ [] else []) (λ b. if bit b (data_word (view w root) p) then (first_value w i + rank b (data_of w i)) ∷ [] else [])
+      ∙ each_on (λ b. if t b then (first_value w i + rank b (data_of w i)) ∷ [] otherwise []) (λ b. if bit b (data_word (view w root) p) then (first_value w i + rank b (data_of w i)) ∷ [] otherwise [])
       (λ b l.
-      ap (λ (y : Bool). if y then (first_value w i + rank b (data_of w i)) ∷ [] else [])
+      ap (λ (y : Bool). if y then (first_value w i + rank b (data_of w i)) ∷ [] otherwise [])
       (sym (ap (bit b) word ∙ word_bit t (up_to 31) b 0 (omega (arith, length_up_to 31)) ∙ ap t (up_at 31 b l))))
       (all_up_to 31)
 

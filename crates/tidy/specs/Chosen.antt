@@ -8,7 +8,7 @@ use Rattle.std.specs.Int.Count.{ones_in}
 use Rattle.std.proofs.Math.ListN.{length, length-append}
 use Rattle.std.proofs.lemmas.List.{set_at}
 use borrow.Rule.Slice.PartMut.{put_mid, mid_of, post_of}
-use Rattle.defs.specs.Basics.{if◌then◌else◌, keep, each, up_to}
+use Rattle.defs.specs.Basics.{if◌then◌otherwise◌, keep, each, up_to}
 use Rattle.defs.specs.Pool.{bit, rank, ones}
 use Rattle.defs.specs.Lemmas.{length_keep, split, keep_append, each_append}
 use Rattle.bits.specs.WordLaws.{rank_suc, rank_mono, rank_all, ones_le}
@@ -88,15 +88,15 @@ module _ (first n : ℕ) (old : List ℕ) (room : n ≤ length old) where
 
 -- the value indices of the first n kept data bits, where `held` are all data bits of the node and `first` is its first value
 abbrev pub values_from : ℕ → ℕ → ℕ → ℕ → List ℕ
-values_from held first kept n = each (λ b. if bit b kept then (first + rank b held) ∷ [] else []) (up_to n)
+values_from held first kept n = each (λ b. if bit b kept then (first + rank b held) ∷ [] otherwise []) (up_to n)
 
 module _ (held first kept : ℕ) where
-  value_snoc : (n : ℕ) → values_from held first kept (suc n) ≡ values_from held first kept n ++ (if bit n kept then (first + rank n held) ∷ [] else [])
+  value_snoc : (n : ℕ) → values_from held first kept (suc n) ≡ values_from held first kept n ++ (if bit n kept then (first + rank n held) ∷ [] otherwise [])
   value_snoc n =
-      each_append (λ b. if bit b kept then (first + rank b held) ∷ [] else []) (up_to n) (n ∷ [])
+      each_append (λ b. if bit b kept then (first + rank b held) ∷ [] otherwise []) (up_to n) (n ∷ [])
       ∙ ap (values_from held first kept n ++◌) (append-nil _)
 
-  one_bit : (n : ℕ) → length (if bit n kept then (first + rank n held) ∷ [] else []) ≡ kept / 2 ^ n % 2
+  one_bit : (n : ℕ) → length (if bit n kept then (first + rank n held) ∷ [] otherwise []) ≡ kept / 2 ^ n % 2
   one_bit n = split (bit n kept) (λ e. rw e (sym (eqb-true _ 1 e))) (λ e. rw e (small (kept / 2 ^ n) (eqb-false _ 1 e)))
     where
       small : (y : ℕ) → (y % 2 ≡ 1 → ⊥) → 0 ≡ y % 2
@@ -199,7 +199,7 @@ abbrev pub node_words : ℕ → ℕ → ℕ → ℕ → List ℕ
 node_words data-word child-word children values = data-word ∷ child-word ∷ (1 + children) ∷ values ∷ []
 
 module _ (d k : ℕ → ℕ) where
-  chosen_suc : (i : ℕ) → chosen d k (suc i) ≡ chosen d k i ++ (if is_kept d k i then i ∷ [] else [])
+  chosen_suc : (i : ℕ) → chosen d k (suc i) ≡ chosen d k i ++ (if is_kept d k i then i ∷ [] otherwise [])
   chosen_suc i = keep_append (is_kept d k) (up_to i) (i ∷ [])
 
   pub chosen_on : (i : ℕ) → is_kept d k i ≡ true → chosen d k (i + 1) ≡ chosen d k i ++ (i ∷ [])

@@ -6,7 +6,7 @@ use Rattle.std.proofs.Math.Bool.{false}
 use Prim.Native.Nat.{ℕ, zero, suc, ◌+◌, ◌-◌, ◌*◌, ◌/◌, ◌^◌, ◌≤◌, ◌<◌}
 use Rattle.std.proofs.Math.Dec.{ltb}
 use Rattle.defs.specs.declared.Prefix.{Prefix}
-use Rattle.defs.specs.Basics.{if◌then◌else◌, up_to}
+use Rattle.defs.specs.Basics.{if◌then◌otherwise◌, up_to}
 use Rattle.defs.specs.Prefix.{leads, deeper, top}
 use Rattle.defs.specs.Pool.{node_count, data_of, child_of, first_child, bit, rank, data_bit}
 use Rattle.defs.specs.Entries.{entries_at, all_entries, under, view}
@@ -75,7 +75,7 @@ full_nil (x ∷ l) = refl
 
 map_word : (t : Prefix → Bool) (f : ℕ → Prefix) (l : List ℕ) → word_of t (map f l) ≡ word_of (λ c. t (f c)) l
 map_word t f [] = refl
-map_word t f (x ∷ l) = ap (λ (n : ℕ). (if t (f x) then 1 else 0) + 2 * n) (map_word t f l)
+map_word t f (x ∷ l) = ap (λ (n : ℕ). (if t (f x) then 1 otherwise 0) + 2 * n) (map_word t f l)
 
 -- the loop over a node's children: the word of the first c of them
 pub record Gathering (w : List ℕ) (root p : Prefix) (word c : ℕ) : Type 0 where

@@ -3,7 +3,7 @@ use Rattle.std.specs.Prelude.{◌≡◌, refl, Bool, true, false, ◌&&◌, List
 use Rattle.std.proofs.Common.{sym, ap, ap₂, ◌∙◌, subst, arith, add-one, mod-eq_of_lt, pow_pos, eqb-true, eq-eqb, ne_eqb, ltb-true, ltb-false}
 use Rattle.std.proofs.lemmas.Bool.{false≢true}
 use Rattle.defs.specs.declared.Prefix.{Prefix}
-use Rattle.defs.specs.Basics.{if◌then◌else◌, each, every}
+use Rattle.defs.specs.Basics.{if◌then◌otherwise◌, each, every}
 use Rattle.defs.specs.Prefix.{deeper}
 use Rattle.defs.specs.Pool.{node_count, data_of, child_of, first_child, bit, rank, ones, data_bit}
 use Rattle.defs.specs.Entries.{Entry, Place, data_place, child_place, places, held_at, entries_at}
@@ -97,11 +97,11 @@ place_all {P} a x i =
 
 -- ---- a node and its children
 
-nil_one : (b : Bool) (e : Entry) → is_nil (if b then e ∷ [] else []) ≡ true → b ≡ false
+nil_one : (b : Bool) (e : Entry) → is_nil (if b then e ∷ [] otherwise []) ≡ true → b ≡ false
 nil_one true e h = absurd (false≢true h)
 nil_one false e h = refl
 
-nil_if : (b : Bool) (l : List Entry) → is_nil (if b then l else []) ≡ true → b ≡ true → is_nil l ≡ true
+nil_if : (b : Bool) (l : List Entry) → is_nil (if b then l otherwise []) ≡ true → b ≡ true → is_nil l ≡ true
 nil_if true l h e = h
 nil_if false l h e = absurd (false≢true e)
 

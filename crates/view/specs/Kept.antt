@@ -5,7 +5,7 @@ use Rattle.std.proofs.Common.{ap₂, ◌∙◌, subst, arith, mod-lt, mod-eq_of_
 use Rattle.std.proofs.lemmas.Nat.{mod-pow-add}
 use Rattle.std.proofs.Math.Pow.{high as pow-high}
 use Rattle.defs.specs.declared.Prefix.{Prefix}
-use Rattle.defs.specs.Basics.{if◌then◌else◌, up_to}
+use Rattle.defs.specs.Basics.{if◌then◌otherwise◌, up_to}
 use Rattle.defs.specs.Prefix.{first, leads, deeper}
 use Rattle.defs.specs.Pool.{node_count, data_of, bit, data_bit}
 use Rattle.defs.specs.PrefixLaws.{Whole}
@@ -140,7 +140,7 @@ module _ (p : Prefix) (whole : Whole p) (short : p.len ≤ 60) (b : ℕ) (h : b 
       and_yes true = refl
       and_yes false = refl
 
-test_value : (a : Bool) (v : ℕ) → is_value (if a then Is v else Missing) ≡ a
+test_value : (a : Bool) (v : ℕ) → is_value (if a then Is v otherwise Missing) ≡ a
 test_value true v = refl
 test_value false v = refl
 

@@ -4,7 +4,7 @@ use Rattle.std.proofs.Common.{sym, ap, ◌∙◌, subst, ⊎_elim, arith, not-su
 use Rattle.std.specs.Int.Count.{count_trailing_zeros}
 use Rattle.std.proofs.Math.Pow.{field, mod-mod-pow, low, high}
 use Rattle.std.proofs.lemmas.Bool.{eqb-false}
-use Rattle.defs.specs.Basics.{if◌then◌else◌}
+use Rattle.defs.specs.Basics.{if◌then◌otherwise◌}
 use Rattle.defs.specs.Pool.{bit, data_bit}
 use Rattle.defs.specs.Entries.{Place, data_place, child_place, places}
 use Rattle.defs.specs.Tidy.{word_of}
@@ -36,7 +36,7 @@ alone_of z = word_of (λ x. eqb (code_of x) z) places
 
 -- a test as a number
 abbrev pub one : Bool → ℕ
-one b = if b then 1 else 0
+one b = if b then 1 otherwise 0
 
 -- ---- words of tests
 

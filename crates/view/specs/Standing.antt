@@ -3,7 +3,7 @@ use Rattle.std.specs.Prelude.{◌≡◌, refl, true, false, ◌&&◌, List, ℕ,
 use Rattle.std.proofs.Common.{sym, ap, ap₂, ◌∙◌, subst, arith}
 use Rattle.std.proofs.Math.Bool.{and-false}
 use Rattle.defs.specs.declared.Prefix.{Prefix}
-use Rattle.defs.specs.Basics.{if◌then◌else◌}
+use Rattle.defs.specs.Basics.{if◌then◌otherwise◌}
 use Rattle.defs.specs.Prefix.{leads}
 use Rattle.defs.specs.Pool.{node_count, data_of, child_of, first_child, first_value, bit, rank, data_bit}
 use Rattle.defs.specs.Entries.{Place, data_place, child_place}
@@ -38,7 +38,7 @@ bitmaps_of w (At i) = record { «data» = data_of w i; child = child_of w i }
 
 -- the value of data bit b of node i, where it is set and the root leads the place's prefix q
 abbrev pub value_on : List ℕ → Prefix → ℕ → ℕ → Prefix → Value
-value_on w root i b q = if bit b (data_of w i) && leads root q then Is (first_value w i + rank b (data_of w i)) else Missing
+value_on w root i b q = if bit b (data_of w i) && leads root q then Is (first_value w i + rank b (data_of w i)) otherwise Missing
 
 -- FOR CALLERS: the bitmaps say which places of the node are marked
 pub bitmaps_marked : (w : List ℕ) (o : Node) (x : Place) → place_bit (bitmaps_of w o).data (bitmaps_of w o).child x ≡ marked w o x

@@ -2,7 +2,7 @@
 use Rattle.std.specs.Prelude.{◌≡◌, false, List, [], ◌∷◌, ℕ, ◌/◌, length}
 use Rattle.std.proofs.Common.{le-ltb}
 use Rattle.defs.specs.declared.Operation.{Operation}
-use Rattle.defs.specs.Basics.{if◌then◌else◌}
+use Rattle.defs.specs.Basics.{if◌then◌otherwise◌}
 use Rattle.defs.specs.Lists.{record_words, records_of, same_keys}
 use Rattle.defs.specs.Tidy.{nodes_of}
 use Rattle.defs.specs.Lemmas.{All, nil, more}
@@ -48,5 +48,5 @@ module _ (width : ℕ) (l r : Side) (zl : Opens width l) (zr : Opens width r) wh
   list_opened op out = let n = length (records_of op (entries_of l) (entries_of r)) in first_passes (side_rows width l r) (room_row 6 n (length out / record_words) ∷ []) n sides_pass
 
   -- key equality is not refused
-  pub equal_opened : equal_outcome width l r ≡ answer 0 (if same_keys (entries_of l) (entries_of r) then 1 else 0) 0
-  equal_opened = first_passes (side_rows width l r) [] (if same_keys (entries_of l) (entries_of r) then 1 else 0) sides_pass
+  pub equal_opened : equal_outcome width l r ≡ answer 0 (if same_keys (entries_of l) (entries_of r) then 1 otherwise 0) 0
+  equal_opened = first_passes (side_rows width l r) [] (if same_keys (entries_of l) (entries_of r) then 1 otherwise 0) sides_pass
