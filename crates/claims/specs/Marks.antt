@@ -64,16 +64,23 @@ LowValue e = e.value < 31 * pool_limit
 abbrev pub LowLength : Entry → Type 0
 LowLength e = e.at.len ≤ 64
 
--- in a well-formed pool every value of a view is below all marks
+-- every value of a view is the index of one of the pool's values
+counted : (width : ℕ) (w : List ℕ) (root : Prefix) (f : Formed width w) → All (Low width w f) (view w root)
+counted width w root f = all_keep (λ e. leads root e.at) (low_entries width w f 13 0 top f.some)
+
+-- in a well-formed pool every value of a view is below 31 * 65,536, so it is not the mark
+pub values_low : (width : ℕ) (w : List ℕ) (root : Prefix) → (fault_of width w).number ≡ 0 → All (λ e. e.value < 31 * pool_limit) (view w root)
+values_low width w root h =
+    let f = formed width w h in
+    let s = values_small width w f (node_count w) (omega arith) in
+    all_imp (λ e l. omega (arith, f.most)) (counted width w root f)
+
+-- the same for those who cite it: the statement above is what a must-fail edit changes, and no theorem of specs/ rests on that
 pub low_view : (width : ℕ) (w : List ℕ) (root : Prefix) → (fault_of width w).number ≡ 0 → All LowValue (view w root)
 low_view width w root h =
     let f = formed width w h in
     let s = values_small width w f (node_count w) (omega arith) in
-    all_imp (λ e l. omega (arith, f.most)) (all_keep (λ e. leads root e.at) (low_entries width w f 13 0 top f.some))
-
--- in a well-formed pool every value of a view is below 31 * 65,536, so it is not the mark
-pub values_low : (width : ℕ) (w : List ℕ) (root : Prefix) → (fault_of width w).number ≡ 0 → All (λ e. e.value < 31 * pool_limit) (view w root)
-values_low width w root h = all_imp (λ e l. omega (arith, l)) (low_view width w root h)
+    all_imp (λ e l. omega (arith, f.most)) (counted width w root f)
 
 -- no entry of a view is longer than 64, so its length is not the mark
 pub lengths_low : (w : List ℕ) (root : Prefix) → All (λ e. e.at.len ≤ 64) (view w root)
