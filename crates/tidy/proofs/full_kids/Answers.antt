@@ -27,7 +27,7 @@ pub overflow_sub-left : goal.overflow_sub-left
 overflow_sub-left c = omega (arith, full.asking_shift c.args.words.now c.requires.0 c.args.levels c.args.i c.requires.1 _ _ _ c.loop-left-test.true c.loop-left.invariant, full.asking_there c.args.words.now c.requires.0 c.args.levels c.args.i c.requires.1 _ _ _ c.loop-left-test.true c.loop-left.invariant)
 
 pub overflow_add-node : goal.overflow_add-node
-overflow_add-node c = record { fits = full.asking_next c.args.words.now c.requires.0 c.args.levels c.args.i c.requires.1 _ _ _ c.loop-left-test.true c.loop-left.invariant }
+overflow_add-node c = omega (arith, full.asking_next c.args.words.now c.requires.0 c.args.levels c.args.i c.requires.1 _ _ _ c.loop-left-test.true c.loop-left.invariant)
 
 pub loop-left-smaller : goal.loop-left-smaller
 loop-left-smaller c = omega (arith, full.asking_shift c.args.words.now c.requires.0 c.args.levels c.args.i c.requires.1 _ _ _ c.loop-left-test.true c.loop-left.invariant, full.asking_there c.args.words.now c.requires.0 c.args.levels c.args.i c.requires.1 _ _ _ c.loop-left-test.true c.loop-left.invariant, pow_pos (count_trailing_zeros 32 c.loop-left.left))

@@ -17,10 +17,10 @@ pub is_empty-requires : goal.is_empty-requires
 is_empty-requires t c = (subst (λ (x : ℕ). c.args.levels - 1 < x) c.decreases (one_less c.if-levels-eq0.false), (c.requires.0, (kid_there c.args.words.now c.args.levels c.args.node _ _ _ (record { deep = c.if-levels-eq0.false; held_is = c.data_bits.ensures; first_is = c.first_child-first.ensures; count_is = c.ones-count.ensures ∙ ap ones c.child_bits.ensures }) c.requires.0 c.requires.1 _ c.loop-j-test.true).0))
 
 pub returns-then-not-is_empty : goal.returns-then-not-is_empty
-returns-then-not-is_empty t c = asking_fails c.args.words.now c.args.levels c.args.node _ _ _ (record { deep = c.if-levels-eq0.false; held_is = c.data_bits.ensures; first_is = c.first_child-first.ensures; count_is = c.ones-count.ensures ∙ ap ones c.child_bits.ensures }) _ c.if-data_bits-ne0.false c.loop-j-test.true (sym c.is_empty.ensures ∙ c.if-not-is_empty.true)
+returns-then-not-is_empty t c = asking_fails c.args.words.now c.args.levels c.args.node _ _ _ (record { deep = c.if-levels-eq0.false; held_is = c.data_bits.ensures; first_is = c.first_child-first.ensures; count_is = c.ones-count.ensures ∙ ap ones c.child_bits.ensures }) _ (omega arith) c.loop-j-test.true (sym c.is_empty.ensures ∙ c.if-not-is_empty.true)
 
 pub returns : goal.returns
-returns t c = asking_ends c.args.words.now c.args.levels c.args.node _ _ _ (record { deep = c.if-levels-eq0.false; held_is = c.data_bits.ensures; first_is = c.first_child-first.ensures; count_is = c.ones-count.ensures ∙ ap ones c.child_bits.ensures }) _ c.if-data_bits-ne0.false c.loop-j-test.false (record { within = c.loop-j.invariant.0; so_far = c.loop-j.invariant.1 })
+returns t c = asking_ends c.args.words.now c.args.levels c.args.node _ _ _ (record { deep = c.if-levels-eq0.false; held_is = c.data_bits.ensures; first_is = c.first_child-first.ensures; count_is = c.ones-count.ensures ∙ ap ones c.child_bits.ensures }) _ (omega arith) c.loop-j-test.false (record { within = c.loop-j.invariant.0; so_far = c.loop-j.invariant.1 })
 
 pub loop-j-preserved : goal.loop-j-preserved
 loop-j-preserved t c =

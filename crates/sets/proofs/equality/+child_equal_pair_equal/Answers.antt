@@ -3,7 +3,7 @@ use Rattle.std.proofs.Common.{◌≡◌, ◌+◌, ◌*◌, ◌-◌, ◌<◌, ◌
 use lib.Count.{count_trailing_zeros}
 use lib.Pow.{pow_pos}
 use Rattle.sets.specs.Listing.{side_of}
-use Rattle.sets.specs.Equality.{paired_short, child_last, child_paired, child_pair, comparing_start, comparing_on, next_inside, next_there, next_shift, pair_differs, comparing_fails, comparing_ends}
+use Rattle.sets.specs.Equality.{child_last, child_paired, child_pair, comparing_start, comparing_on, next_inside, next_there, next_shift, pair_differs, comparing_fails, comparing_ends}
 use Rattle.sets.proofs.equality.+child_equal_pair_equal.Goals as goal
 
 at_least : {n : ℕ} → (n ≡ 0 → ⊥) → 1 ≤ n
@@ -15,12 +15,6 @@ one_less h = omega arith
 pub child_equal-returns-then-levels-eq0 : goal.child_equal-returns-then-levels-eq0
 child_equal-returns-then-levels-eq0 t c = child_last (side_of c.args.l.now c.args.roots.left) (side_of c.args.r.now c.args.roots.right) c.args.p c.args.left c.args.right c.args.levels c.requires.0 (omega (arith, c.well_formed.1.1.1.0)) c.args.c c.requires.1 c.if-levels-eq0.true
 
-pub child_equal-child_at-a-requires : goal.child_equal-child_at-a-requires
-child_equal-child_at-a-requires t c = (c.requires.0.sane_left, c.requires.0.in_left, c.requires.1)
-
-pub child_equal-child_at-b-requires : goal.child_equal-child_at-b-requires
-child_equal-child_at-b-requires t c = (c.requires.0.sane_right, c.requires.0.in_right, c.requires.1)
-
 pub child_equal-overflow_sub-levels : goal.child_equal-overflow_sub-levels
 child_equal-overflow_sub-levels t c = at_least c.if-levels-eq0.false
 
@@ -30,20 +24,8 @@ child_equal-pair_equal-requires t c = (subst (λ (x : ℕ). 2 * (c.args.levels -
 pub child_equal-returns : goal.child_equal-returns
 child_equal-returns t c = child_pair (side_of c.args.l.now c.args.roots.left) (side_of c.args.r.now c.args.roots.right) c.args.p c.args.left c.args.right c.args.levels c.requires.0 (omega (arith, c.well_formed.1.1.1.0)) c.args.c c.requires.1 c.if-levels-eq0.false _ c.place_prefix-q.ensures _ _ c.child_at-a.ensures c.child_at-b.ensures _ c.pair_equal.ensures
 
-pub pair_equal-kept_data-a-requires : goal.pair_equal-kept_data-a-requires
-pair_equal-kept_data-a-requires t c = (c.requires.sane_left, c.requires.in_left, c.requires.whole, paired_short c.requires)
-
-pub pair_equal-kept_data-b-requires : goal.pair_equal-kept_data-b-requires
-pair_equal-kept_data-b-requires t c = (c.requires.sane_right, c.requires.in_right, c.requires.whole, paired_short c.requires)
-
 pub pair_equal-returns-then-a-b : goal.pair_equal-returns-then-a-b
 pair_equal-returns-then-a-b t c = pair_differs (side_of c.args.l.now c.args.roots.left) (side_of c.args.r.now c.args.roots.right) c.args.p c.args.left c.args.right c.args.levels _ _ c.kept_data-a.ensures c.kept_data-b.ensures c.if-a-b.true
-
-pub pair_equal-bitmaps_at-requires : goal.pair_equal-bitmaps_at-requires
-pair_equal-bitmaps_at-requires t c = c.requires.in_left
-
-pub pair_equal-bitmaps_at-requires-2 : goal.pair_equal-bitmaps_at-requires-2
-pair_equal-bitmaps_at-requires-2 t c = c.requires.in_right
 
 pub pair_equal-child_equal-requires : goal.pair_equal-child_equal-requires
 pair_equal-child_equal-requires t c = (subst (λ (x : ℕ). 2 * c.args.levels < x) c.decreases (omega arith), (c.requires, next_inside (side_of c.args.l.now c.args.roots.left) (side_of c.args.r.now c.args.roots.right) c.args.p c.args.left c.args.right c.args.levels _ c.loop-todo.invariant (omega (arith, c.loop-todo-test.true))))
