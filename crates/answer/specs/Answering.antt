@@ -1,13 +1,12 @@
--- The text that answers an input: document 01, "The text program".
-use Rattle.std.specs.Prelude.{List, [], ℕ, take, replicate}
+-- The text that answers an input.
+use Rattle.std.specs.Prelude.{List, [], ℕ, take, replicate, Result, Ok, Err}
 use Rattle.defs.specs.declared.Answer.{Answer}
 use Rattle.defs.specs.declared.Prefix.{Prefix}
 use Rattle.defs.specs.Outcome.{Side, Listed, answer, list_outcome, equal_outcome}
 use Rattle.text.specs.declared.Call.{Call}
 use Rattle.text.specs.declared.Call.TheVariants.{Listing, Equality}
 use Rattle.text.specs.declared.Said.{Said}
-use Rattle.text.specs.declared.Request.{Request}
-use Rattle.text.specs.declared.Request.TheVariants.{Good, Bad}
+use Rattle.text.specs.declared.BadInput.{BadInput}
 use Rattle.text.specs.Input as input
 use Rattle.text.specs.Output.{output_of}
 
@@ -33,9 +32,9 @@ abbrev pub lines_of : Call → Listed → List ℕ
 lines_of call o = output_of call o.answer o.output
 
 -- the lines that answer a request, with room for 512 records; a bad line is refusal 9
-abbrev pub reply_to : Request → List ℕ → List ℕ → List ℕ
-reply_to (Good s) left right = lines_of s.head.call (said_by s left right (replicate 3072 0))
-reply_to (Bad line) left right = output_of Equality (answer 9 line 0) []
+abbrev pub reply_to : Result Said BadInput → List ℕ → List ℕ → List ℕ
+reply_to (Ok s) left right = lines_of s.head.call (said_by s left right (replicate 3072 0))
+reply_to (Err e) left right = output_of Equality (answer 9 (input.line_number e) 0) []
 
 -- the text that answers an input, with room for 1,024 nodes a side
 abbrev pub text_of : List ℕ → List ℕ

@@ -1,5 +1,5 @@
 -- Places: number, bits and value go both ways, and a place's prefix is its node's, gone deeper.
-use Rattle.std.specs.Prelude.{◌≡◌, ℕ, suc, ◌+◌, ◌-◌, ◌*◌, ◌^◌, ◌<◌, ◌≤◌, refl}
+use Rattle.std.specs.Prelude.{◌≡◌, ℕ, suc, ◌+◌, ◌-◌, ◌*◌, ◌^◌, ◌<◌, ◌≤◌, refl, Option, None, Some, IfNone, IfSome, unwrap_or}
 use Rattle.std.proofs.Common.{sym, ap, ◌∙◌, subst, mod-eq_of_lt, mul-le-mul_right, suc-mul, lt_of_not-le, pow_pos, pow_mono, pow-add, shl_lt, shr_lt, le-leb, lt-ltb}
 use native.Mathlib.Omega.{arith}
 use Rattle.std.proofs.Math.Nat.{pow-succ'}
@@ -53,6 +53,17 @@ module _ (h : ℕ) (some : 0 < h) (word : h < 2 ^ 32) where
 pub place_len_none : place_len 0 ≡ 0
 unfolding place_len
 place_len_none = rw (leading_of_zero 32)
+
+-- the greatest power of two up to h, where there is one
+pub log_is : (h : ℕ) (r : Option ℕ) → IfNone r (h ≡ 0) → IfSome r (λ k. 2 ^ k ≤ h) → IfSome r (λ k. h < 2 * 2 ^ k) → IfSome r (λ k. k < 32) → unwrap_or r 0 ≡ place_len h
+log_is h None none lo hi short = sym (ap place_len none ∙ place_len_none)
+log_is h (Some k) none lo hi short =
+    let e : h ≡ 2 ^ k + (h - 2 ^ k) = omega arith in
+    sym (ap place_len e ∙ place_len_lem k (h - 2 ^ k) short (omega arith))
+
+pub place_len_short : (h : ℕ) → place_len h < 32
+unfolding place_len
+place_len_short h = omega arith
 
 pub place_value_none : place_value 0 ≡ 0
 unfolding place_value

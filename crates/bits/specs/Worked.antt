@@ -1,5 +1,7 @@
 -- How the leaves work their definitions out: what their proofs cite, and callers need not.
-use Rattle.std.specs.Prelude.{◌≡◌, ℕ, ◌+◌, ◌-◌, ◌*◌, ◌/◌, ◌%◌, ◌^◌, ◌<◌, ◌≤◌, Bool, true, false, ◌||◌, ◌==◌, ◌≢◌, bit_and, nat_le, nat_lt}
+use Rattle.std.specs.Prelude.{◌≡◌, ℕ, ◌+◌, ◌-◌, ◌*◌, ◌/◌, ◌%◌, ◌^◌, ◌<◌, ◌≤◌, false, ◌==◌, bit_and, nat_le, nat_lt}
+use Rattle.std.specs.Prelude.{Some}
+use Rattle.std.specs.Ordering.{is_some_and, is_lt, partial_ordering_then, nat_cmp}
 use Rattle.std.proofs.Math.Path.{refl, sym, ap}
 use Rattle.std.proofs.Common.{◌∙◌, subst, one-mul, lit<, pow_pos, shl_exact}
 use native.Mathlib.Omega.{arith}
@@ -14,7 +16,7 @@ use Rattle.defs.specs.PrefixLaws.{cut, prefix_eq}
 use Rattle.defs.specs.Lemmas.{split}
 use Rattle.bits.specs.Words.{mask_of}
 use Rattle.bits.specs.Places.{place_len, place_value, place_number, place_prefix}
-use Rattle.bits.specs.PlaceLaws.{made, place_len_none}
+use Rattle.bits.specs.PlaceLaws.{made, place_len_none, place_len_short}
 
 -- 1 << z
 pub one_shl : (w z : ℕ) → z < w → 1 * 2 ^ z % 2 ^ w ≡ 2 ^ z
@@ -60,27 +62,21 @@ module _ (p q : Prefix) where
   unfolding leads
   leads_longer h = rw (lt-leb p.len q.len h)
 
-  pub before_same : p.key ≡ q.key → nat_lt p.len q.len ≡ before p q
+  -- the order of the fields: the keys decide, and the lengths where the keys are equal
+  pub before_is : is_some_and is_lt (partial_ordering_then (Some (nat_cmp p.key q.key)) (Some (nat_cmp p.len q.len))) ≡ before p q
   unfolding before
-  before_same e = rw (le-ltb p.key q.key (omega arith), eq-eqb p.key q.key e)
-
-  pub before_other : (p.key ≢ q.key) → nat_lt p.key q.key ≡ before p q
-  unfolding before
-  before_other n = rw (ne_eqb p.key q.key n) (sym (or_none (nat_lt p.key q.key)))
-    where
-      or_none : (b : Bool) → (b || false) ≡ b
-      or_none true = refl
-      or_none false = refl
+  before_is =
+      split (nat_lt p.key q.key) (λ e. rw e)
+      (λ e.
+      split (p.key == q.key) (λ f. rw (e, f) (split (nat_lt p.len q.len) (λ g. rw g) (λ g. split (p.len == q.len) (λ h. rw (g, h)) (λ h. rw (g, h)))))
+      (λ f. rw (e, f)))
 
 -- ---- places
 
 -- the highest one of a number, taken off
-pub value_is : (h n : ℕ) → 0 < h → h < 2 ^ 32 → n ≡ place_len h → (1 * 2 ^ n % 2 ^ 32 ≤ h) × (h - 1 * 2 ^ n % 2 ^ 32 ≡ place_value h)
+pub value_is : (h n : ℕ) → n ≡ place_len h → h - 1 * 2 ^ n % 2 ^ 32 ≡ place_value h
 unfolding place_value
-value_is h n some word e =
-    let m = made h some word in
-    let s : 1 * 2 ^ n % 2 ^ 32 ≡ 2 ^ place_len h = rw e (one_shl 32 (place_len h) m.short) in
-    (omega arith, omega arith)
+value_is h n e = rw e (ap (h -◌) (one_shl 32 (place_len h) (place_len_short h)))
 
 module _ (n v : ℕ) where
   pub number_wide : 6 ≤ n → 0 ≡ place_number n v

@@ -1,132 +1,139 @@
-// Numbers and words from the text of the stored cases.
-use crate::{Compared, Read};
+// Numbers, words and views from the text of the stored cases.
+ghost use Rattle.std.specs.Prelude.{◌≡◌, ◌≤◌, ℕ, List, length};
 
-// A hex digit's value, or 16.
-fn digit(c: u8) -> u64 {
-    if b'0' <= c && c <= b'9' {
-        return (c - b'0') as u64;
-    }
-    if b'a' <= c && c <= b'f' {
-        return (c - b'a' + 10) as u64;
-    }
-    16
+use defs::Prefix;
+use std::marker::Model;
+
+// A word of a buffer: a pool's, a value list's or a record's.
+pub(crate) trait Word: Copy + Into<u64> {
+    // The low bits of a number, as many as the word has.
+    fn low_bits(number: u64) -> Self;
 }
 
-// The next digit from a place on, past blanks and comments, or the end.
-pub(crate) fn start(text: &[u8], from: usize) -> usize {
-    let mut at = from;
-    let mut comment = false;
-    while at < text.len() {
-        let c = text[at];
-        if c == b'#' {
-            comment = true;
+impl Word for u32 {
+    fn low_bits(number: u64) -> Self {
+        (number & 0xffff_ffff) as u32
+    }
+}
+
+impl Word for u64 {
+    fn low_bits(number: u64) -> Self {
+        number
+    }
+}
+
+// A hex digit's value.
+fn digit(c: u8) -> Option<u8> {
+    match c {
+        b'0'..=b'9' => Some(c - b'0'),
+        b'a'..=b'f' => Some(c - b'a' + 10),
+        _ => None,
+    }
+}
+
+// A view of a case.
+#[derive(Clone, Copy)]
+pub(crate) struct View<'a> {
+    pub(crate) words: &'a [u32],
+    pub(crate) root: Prefix,
+}
+
+// Reads a text from its front. A contract sees it as the bytes that are left. That none come back speaks of two states, so each reader has a clause for it: no invariant of the type could say it.
+#[derive(Drop)]
+pub(crate) struct Scanner<'a> {
+    rest: &'a [u8],
+}
+
+impl<'a> Model for Scanner<'a> {
+    ghost Value = { List ℕ };
+
+    ghost view = { λ s. s.rest.now };
+}
+
+impl Scanner<'_> {
+    pub(crate) fn new(text: &[u8]) -> Scanner<'_>
+        ensures { result ≡ text.now }
+    {
+        Scanner { rest: text }
+    }
+
+    // How many bytes are left.
+    pub(crate) fn len(&self) -> usize
+        ensures { result ≡ length self.now }
+    {
+        self.rest.len()
+    }
+
+    pub(crate) fn is_empty(&self) -> bool {
+        self.rest.is_empty()
+    }
+
+    // On to the next digit, past blanks and comments, or to the end.
+    pub(crate) fn skip(&mut self)
+        ensures { length self.new ≤ length self.old }
+    {
+        let rest = self.rest;
+        let mut comment = false;
+        for (i, &c) in rest.iter().enumerate() {
+            match c {
+                b'#' => comment = true,
+                b'\n' => comment = false,
+                _ => {}
+            }
+            if !comment && digit(c).is_some() {
+                self.rest = &rest[i..];
+                return;
+            }
         }
-        if c == b'\n' {
-            comment = false;
+        self.rest = &[];
+    }
+
+    // The next number, or 0 where the text has no more.
+    pub(crate) fn number(&mut self) -> u64
+        ensures { length self.new ≤ length self.old }
+    {
+        self.skip();
+        let end = self.rest.iter().position(|&c| digit(c).is_none());
+        let (digits, rest) = self.rest.split_at(end.unwrap_or(self.rest.len()));
+        self.rest = rest;
+        digits
+            .iter()
+            .filter_map(|&c| digit(c))
+            .fold(0, |value, d| (value << 4) | u64::from(d))
+    }
+
+    // A count, and so many words into the front of a buffer, as far as it goes. A larger count is for the caller to refuse.
+    pub(crate) fn words<W: Word>(&mut self, into: &mut [W]) -> usize
+        ensures { length self.new ≤ length self.old }
+    {
+        let count = self.number() as usize;
+        for word in into.iter_mut().take(count) {
+            *word = W::low_bits(self.number());
         }
-        if !comment && digit(c) < 16 {
-            return at;
+        count
+    }
+
+    // A view, if its words fit the buffer that they go to.
+    pub(crate) fn view<'a>(&mut self, into: &'a mut [u32]) -> Option<View<'a>>
+        ensures { length self.new ≤ length self.old }
+    {
+        let count = self.words(into);
+        let key = self.number();
+        let len = u32::low_bits(self.number());
+        Some(View {
+            words: into.get(..count)?,
+            root: Prefix { key, len },
+        })
+    }
+
+    // Whether the next numbers are these words. All of them are read.
+    pub(crate) fn are_next<W: Word>(&mut self, words: &[W]) -> bool
+        ensures { length self.new ≤ length self.old }
+    {
+        let mut same = true;
+        for word in words {
+            same &= self.number() == (*word).into();
         }
-        at += 1;
+        same
     }
-    at
-}
-
-// The next number.
-pub(crate) fn number(text: &[u8], from: usize) -> Read {
-    let mut at = start(text, from);
-    let mut value: u64 = 0;
-    while at < text.len() {
-        let d = digit(text[at]);
-        if d == 16 {
-            break;
-        }
-        value = (value << 4) | d;
-        at += 1;
-    }
-    Read { value, next: at }
-}
-
-// A word into its place, where there is one.
-fn put(into: &mut [u32], i: usize, word: u64) {
-    if i < into.len() {
-        into[i] = (word % 4294967296) as u32;
-    }
-}
-
-// A count, and so many words into the front of a buffer of 256. A larger count is for the caller to refuse.
-pub(crate) fn words(text: &[u8], from: usize, into: &mut [u32]) -> Read {
-    let count = number(text, from);
-    let mut at = count.next;
-    let mut i: usize = 0;
-    while i < 256 && (i as u64) < count.value {
-        let w = number(text, at);
-        put(into, i, w.value);
-        at = w.next;
-        i += 1;
-    }
-    Read {
-        value: count.value,
-        next: at,
-    }
-}
-
-// A record's word into its place, where there is one.
-fn put_long(into: &mut [u64], i: usize, word: u64) {
-    if i < into.len() {
-        into[i] = word;
-    }
-}
-
-// The same for record words.
-pub(crate) fn long_words(text: &[u8], from: usize, into: &mut [u64]) -> Read {
-    let count = number(text, from);
-    let mut at = count.next;
-    let mut i: usize = 0;
-    while i < 256 && (i as u64) < count.value {
-        let w = number(text, at);
-        put_long(into, i, w.value);
-        at = w.next;
-        i += 1;
-    }
-    Read {
-        value: count.value,
-        next: at,
-    }
-}
-
-// The next number is this one, and so was all before it.
-pub(crate) fn is_next(text: &[u8], before: Compared, value: u64) -> Compared {
-    let w = number(text, before.next);
-    Compared {
-        same: before.same && w.value == value,
-        next: w.next,
-    }
-}
-
-// The next numbers are these words, and so was all before them.
-pub(crate) fn are_next(text: &[u8], before: Compared, got: &[u64]) -> Compared {
-    let mut seen = before;
-    let mut i: usize = 0;
-    while i < got.len() {
-        seen = is_next(text, seen, got[i]);
-        i += 1;
-    }
-    seen
-}
-
-// The same for one word of a pool or a value list.
-fn word_is_next(text: &[u8], before: Compared, word: u32) -> Compared {
-    is_next(text, before, word as u64)
-}
-
-// The same for the first words of a pool or a value list.
-pub(crate) fn words_are_next(text: &[u8], before: Compared, got: &[u32], n: usize) -> Compared {
-    let mut seen = before;
-    let mut i: usize = 0;
-    while i < got.len() && i < n {
-        seen = word_is_next(text, seen, got[i]);
-        i += 1;
-    }
-    seen
 }

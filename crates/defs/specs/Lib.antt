@@ -7,6 +7,7 @@ pub mod Check
 pub mod Lists
 pub mod Tidy
 pub mod Outcome
+pub mod Refusals
 -- The worked cases, computed.
 pub mod Cases
 pub mod Borders

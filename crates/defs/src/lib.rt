@@ -6,9 +6,13 @@ ghost use Rattle.defs.specs.Check.{pool_limit};
 ghost use Rattle.defs.specs.Lists.{missing, no_cover, record_words};
 ghost use Rattle.defs.specs.Outcome.{answer};
 
-// A 64-bit key, first bit highest, and a length.
+mod refusals;
+
+pub use refusals::{Fault, PoolError, Refusal};
+
+// A 64-bit key, first bit highest, and a length. Prefixes stand in the order of their keys, and of their lengths where the keys are equal.
 #[repr(C)]
-#[derive(Clone, Copy)]
+#[derive(Clone, Copy, Debug, PartialEq, Eq, PartialOrd, Ord)]
 pub struct Prefix {
     pub key: u64,
     pub len: u32,
@@ -16,7 +20,7 @@ pub struct Prefix {
 
 // The refusal number or 0, the number beside it, and a second one, which only the check uses for its fault.
 #[repr(C)]
-#[derive(Clone, Copy)]
+#[derive(Clone, Copy, Debug, PartialEq, Eq)]
 pub struct Answer {
     pub number: u32,
     pub beside: u64,
@@ -24,7 +28,7 @@ pub struct Answer {
 }
 
 // The five lists.
-#[derive(Clone, Copy)]
+#[derive(Clone, Copy, Debug, PartialEq, Eq)]
 pub enum Operation {
     Union,
     Intersection,

@@ -2,21 +2,21 @@
 #![tactic(auto)]
 
 ghost use Rattle.std.specs.Prelude.{◌≡◌};
-ghost use Rattle.defs.specs.declared.Operation.TheVariants.{Union, Intersection, Difference, CoveringDifference, CoveringUnion};
 ghost use Rattle.defs.specs.Outcome.{check_outcome, list_outcome, equal_outcome, tidy_outcome};
 ghost use Rattle.lhamtrovi.specs.Plain.{side};
 
-use defs::{Answer, Prefix};
+use defs::{Answer, Operation, Prefix};
 
 // Whether a pool is well-formed, and its first fault.
 pub fn lhamtrovi_check(width: u32, pool: &[u32]) -> Answer
     ensures { result ≡ check_outcome width pool.now }
 {
-    pool::check(width, pool)
+    pool::check(width, pool).into()
 }
 
-// D1: the prefixes of either view.
-pub fn lhamtrovi_union(
+// The list of an operation: D1 to D5. lhamtrovi_c has an export for each.
+pub fn lhamtrovi_list(
+    op: Operation,
     width: u32,
     left: &[u32],
     left_key: u64,
@@ -26,7 +26,7 @@ pub fn lhamtrovi_union(
     right_len: u32,
     out: &mut [u64],
 ) -> Answer
-    ensures { record { answer = result; output = out.new } ≡ list_outcome Union width (side left.now left_key left_len) (side right.now right_key right_len) out.old }
+    ensures { record { answer = result; output = out.new } ≡ list_outcome op width (side left.now left_key left_len) (side right.now right_key right_len) out.old }
 {
     let l = Prefix {
         key: left_key,
@@ -36,103 +36,7 @@ pub fn lhamtrovi_union(
         key: right_key,
         len: right_len,
     };
-    sets::union::list(width, left, l, right, r, out)
-}
-
-// D2: the prefixes of both views.
-pub fn lhamtrovi_intersection(
-    width: u32,
-    left: &[u32],
-    left_key: u64,
-    left_len: u32,
-    right: &[u32],
-    right_key: u64,
-    right_len: u32,
-    out: &mut [u64],
-) -> Answer
-    ensures { record { answer = result; output = out.new } ≡ list_outcome Intersection width (side left.now left_key left_len) (side right.now right_key right_len) out.old }
-{
-    let l = Prefix {
-        key: left_key,
-        len: left_len,
-    };
-    let r = Prefix {
-        key: right_key,
-        len: right_len,
-    };
-    sets::intersection::list(width, left, l, right, r, out)
-}
-
-// D3: the prefixes of the left view that are not in the right one.
-pub fn lhamtrovi_difference(
-    width: u32,
-    left: &[u32],
-    left_key: u64,
-    left_len: u32,
-    right: &[u32],
-    right_key: u64,
-    right_len: u32,
-    out: &mut [u64],
-) -> Answer
-    ensures { record { answer = result; output = out.new } ≡ list_outcome Difference width (side left.now left_key left_len) (side right.now right_key right_len) out.old }
-{
-    let l = Prefix {
-        key: left_key,
-        len: left_len,
-    };
-    let r = Prefix {
-        key: right_key,
-        len: right_len,
-    };
-    sets::difference::list(width, left, l, right, r, out)
-}
-
-// D4: the prefixes of the left view that no prefix of the right one equals or leads.
-pub fn lhamtrovi_covering_difference(
-    width: u32,
-    left: &[u32],
-    left_key: u64,
-    left_len: u32,
-    right: &[u32],
-    right_key: u64,
-    right_len: u32,
-    out: &mut [u64],
-) -> Answer
-    ensures { record { answer = result; output = out.new } ≡ list_outcome CoveringDifference width (side left.now left_key left_len) (side right.now right_key right_len) out.old }
-{
-    let l = Prefix {
-        key: left_key,
-        len: left_len,
-    };
-    let r = Prefix {
-        key: right_key,
-        len: right_len,
-    };
-    sets::covering_difference::list(width, left, l, right, r, out)
-}
-
-// D5: the prefixes of either view, each with its cover in the other.
-pub fn lhamtrovi_covering_union(
-    width: u32,
-    left: &[u32],
-    left_key: u64,
-    left_len: u32,
-    right: &[u32],
-    right_key: u64,
-    right_len: u32,
-    out: &mut [u64],
-) -> Answer
-    ensures { record { answer = result; output = out.new } ≡ list_outcome CoveringUnion width (side left.now left_key left_len) (side right.now right_key right_len) out.old }
-{
-    let l = Prefix {
-        key: left_key,
-        len: left_len,
-    };
-    let r = Prefix {
-        key: right_key,
-        len: right_len,
-    };
-    sets::covering_union::list(width, left, l, right, r, out)
+    sets::list(op, width, left, l, right, r, out).into()
 }
 
 // D6: whether the two views have the same prefixes.
@@ -155,7 +59,7 @@ pub fn lhamtrovi_equal_keys(
         key: right_key,
         len: right_len,
     };
-    sets::equality::equal_keys(width, left, l, right, r)
+    sets::equality::equal_keys(width, left, l, right, r).into()
 }
 
 // D7: the tidy pool of a view, and the old value index of each new one.
@@ -170,5 +74,5 @@ pub fn lhamtrovi_tidy(
     ensures { record { answer = result; output = out.new; values = values.new } ≡ tidy_outcome width (side pool.now key len) out.old values.old }
 {
     let root = Prefix { key, len };
-    tidy::tidy(width, pool, root, out, values)
+    tidy::tidy(width, pool, root, out, values).into()
 }

@@ -1,4 +1,4 @@
-// The static library for C and Rust: each export makes the call of its name in lhamtrovi, and has its contract.
+// The static library for C and Rust: each export makes a call of lhamtrovi, a list the one of its operation, and has its contract.
 #![tactic(auto)]
 
 ghost use Rattle.std.specs.Prelude.{◌≡◌};
@@ -6,7 +6,7 @@ ghost use Rattle.defs.specs.declared.Operation.TheVariants.{Union, Intersection,
 ghost use Rattle.defs.specs.Outcome.{check_outcome, list_outcome, equal_outcome, tidy_outcome};
 ghost use Rattle.lhamtrovi.specs.Plain.{side};
 
-use defs::Answer;
+use defs::{Answer, Operation};
 
 // Whether a pool is well-formed, and its first fault.
 #[unsafe(no_mangle)]
@@ -30,8 +30,16 @@ pub extern "C" fn lhamtrovi_union(
 ) -> Answer
     ensures { record { answer = result; output = out.new } ≡ list_outcome Union width (side left.now left_key left_len) (side right.now right_key right_len) out.old }
 {
-    lhamtrovi::lhamtrovi_union(
-        width, left, left_key, left_len, right, right_key, right_len, out,
+    lhamtrovi::lhamtrovi_list(
+        Operation::Union,
+        width,
+        left,
+        left_key,
+        left_len,
+        right,
+        right_key,
+        right_len,
+        out,
     )
 }
 
@@ -49,8 +57,16 @@ pub extern "C" fn lhamtrovi_intersection(
 ) -> Answer
     ensures { record { answer = result; output = out.new } ≡ list_outcome Intersection width (side left.now left_key left_len) (side right.now right_key right_len) out.old }
 {
-    lhamtrovi::lhamtrovi_intersection(
-        width, left, left_key, left_len, right, right_key, right_len, out,
+    lhamtrovi::lhamtrovi_list(
+        Operation::Intersection,
+        width,
+        left,
+        left_key,
+        left_len,
+        right,
+        right_key,
+        right_len,
+        out,
     )
 }
 
@@ -68,8 +84,16 @@ pub extern "C" fn lhamtrovi_difference(
 ) -> Answer
     ensures { record { answer = result; output = out.new } ≡ list_outcome Difference width (side left.now left_key left_len) (side right.now right_key right_len) out.old }
 {
-    lhamtrovi::lhamtrovi_difference(
-        width, left, left_key, left_len, right, right_key, right_len, out,
+    lhamtrovi::lhamtrovi_list(
+        Operation::Difference,
+        width,
+        left,
+        left_key,
+        left_len,
+        right,
+        right_key,
+        right_len,
+        out,
     )
 }
 
@@ -87,8 +111,16 @@ pub extern "C" fn lhamtrovi_covering_difference(
 ) -> Answer
     ensures { record { answer = result; output = out.new } ≡ list_outcome CoveringDifference width (side left.now left_key left_len) (side right.now right_key right_len) out.old }
 {
-    lhamtrovi::lhamtrovi_covering_difference(
-        width, left, left_key, left_len, right, right_key, right_len, out,
+    lhamtrovi::lhamtrovi_list(
+        Operation::CoveringDifference,
+        width,
+        left,
+        left_key,
+        left_len,
+        right,
+        right_key,
+        right_len,
+        out,
     )
 }
 
@@ -106,8 +138,16 @@ pub extern "C" fn lhamtrovi_covering_union(
 ) -> Answer
     ensures { record { answer = result; output = out.new } ≡ list_outcome CoveringUnion width (side left.now left_key left_len) (side right.now right_key right_len) out.old }
 {
-    lhamtrovi::lhamtrovi_covering_union(
-        width, left, left_key, left_len, right, right_key, right_len, out,
+    lhamtrovi::lhamtrovi_list(
+        Operation::CoveringUnion,
+        width,
+        left,
+        left_key,
+        left_len,
+        right,
+        right_key,
+        right_len,
+        out,
     )
 }
 

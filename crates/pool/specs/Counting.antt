@@ -1,13 +1,13 @@
 -- The check's counts, which stand for the queue of depths of the definition: document 01 has nodes level by level.
-use Rattle.std.specs.Prelude.{List, ◌++◌, ℕ, ◌+◌, ◌-◌, ◌*◌, ◌≤◌, ltb, eqb, replicate}
+use Rattle.std.specs.Prelude.{Result, Ok, Err, List, ◌++◌, ℕ, ◌+◌, ◌-◌, ◌*◌, ◌≤◌, ltb, eqb, replicate}
 use Rattle.defs.specs.declared.Answer.{Answer}
+use Rattle.defs.specs.declared.refusals.Fault.{Fault as FaultKind}
 use Rattle.defs.specs.Basics.{if◌then◌otherwise◌}
 use Rattle.defs.specs.Pool.{data_of, child_of, ones}
 use Rattle.defs.specs.Check.{Fault, fault_at}
 use Rattle.defs.specs.Outcome.{answer}
+use Rattle.defs.specs.Refusals.{fault_number}
 use Rattle.pool.specs.declared.Count.{Count}
-use Rattle.pool.specs.declared.Step.{Step}
-use Rattle.pool.specs.declared.Step.TheVariants.{Bad, On}
 
 -- the depths that are due
 abbrev pub queue : Count → List ℕ
@@ -29,17 +29,14 @@ after_of w i c = record {
   values = c.values + ones (data_of w i);
 }
 
--- what is found at node i
-abbrev pub step_at : ℕ → List ℕ → ℕ → Count → Step
-step_at width w i c =
-    let fault = fault_at width w i c.depth c.children c.values in
-    if eqb c.here 0 then Bad 3
-    otherwise if ltb 0 fault then Bad fault
-    otherwise On (after_of w i c)
+-- the number of a fault that is found, or 0
+abbrev pub number_found : Result Unit FaultKind → ℕ
+number_found (Ok none) = 0
+number_found (Err fault) = fault_number fault
 
--- what is found at node i, from the counts before it
-unfoldable pub step_of : ℕ → List ℕ → ℕ → Count → Step
-step_of width w i c = step_at width w i (level_of c)
+-- the number of the first fault of node i, or 0, from the counts at its level
+abbrev pub found_at : ℕ → List ℕ → ℕ → Count → ℕ
+found_at width w i c = if eqb c.here 0 then 3 otherwise fault_at width w i c.depth c.children c.values
 
 -- the check's answer once the width is right: the first fault, or the number of nodes
 abbrev pub fault_answer : ℕ → Fault → Answer

@@ -4,7 +4,7 @@ ghost use Rattle.theory.specs.Steps.{emit_both};
 ghost use Rattle.rules.specs.Wanted.{both_of};
 
 use defs::Prefix;
-use theory::{Emit, Item, Value};
+use theory::{Item, Value};
 use view::Bitmaps;
 
 // A place is worth a visit where both sides have its bit.
@@ -18,18 +18,15 @@ pub fn wanted(l: Bitmaps, r: Bitmaps) -> Bitmaps
 }
 
 // The item of a prefix that has a value on both sides.
-pub fn item(q: Prefix, a: Value, b: Value) -> Emit
+pub fn item(q: Prefix, a: Value, b: Value) -> Option<Item>
     ensures { result ≡ emit_both q a b }
 {
-    match a {
-        Value::Missing => Emit::Nothing,
-        Value::Is(x) => match b {
-            Value::Missing => Emit::Nothing,
-            Value::Is(y) => Emit::One(Item::Both {
-                prefix: q,
-                left: x,
-                right: y,
-            }),
-        },
+    match (a, b) {
+        (Some(left), Some(right)) => Some(Item::Both {
+            prefix: q,
+            left,
+            right,
+        }),
+        _ => None,
     }
 }

@@ -12,8 +12,8 @@ fn cover_len(c: Cover) -> u64
     ensures { result ≡ len_for c }
 {
     match c {
-        Cover::Nothing => defs::missing_cover(),
-        Cover::Of { len, value: _ } => len as u64,
+        None => defs::missing_cover(),
+        Some(above) => above.len as u64,
     }
 }
 
@@ -22,19 +22,19 @@ fn cover_value(c: Cover) -> u64
     ensures { result ≡ value_for c }
 {
     match c {
-        Cover::Nothing => defs::missing_value(),
-        Cover::Of { len: _, value } => value as u64,
+        None => defs::missing_value(),
+        Some(above) => above.value as u64,
     }
 }
 
-// Six words at the front of a buffer.
-fn put_words(out: &mut [u64], p: Prefix, tag: u64, left: u64, right: u64, cover: u64)
+// The words of a record at the front of a buffer: key, length, the mark of its sides, both values, and the cover's length.
+fn put_words(out: &mut [u64], p: Prefix, sides: u64, left: u64, right: u64, cover: u64)
     requires { record_words ≤ length out.old }
-    ensures { out.new ≡ p.key ∷ p.len ∷ tag ∷ left ∷ right ∷ cover ∷ drop record_words out.old }
+    ensures { out.new ≡ p.key ∷ p.len ∷ sides ∷ left ∷ right ∷ cover ∷ drop record_words out.old }
 {
     out[0] = p.key;
     out[1] = p.len as u64;
-    out[2] = tag;
+    out[2] = sides;
     out[3] = left;
     out[4] = right;
     out[5] = cover;

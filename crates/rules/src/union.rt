@@ -4,7 +4,7 @@ ghost use Rattle.theory.specs.Steps.{emit_union};
 ghost use Rattle.rules.specs.Wanted.{either_of};
 
 use defs::Prefix;
-use theory::{Cover, Emit, Item, Value};
+use theory::{Cover, Item, Value};
 use view::Bitmaps;
 
 // A place is worth a visit where either side has its bit.
@@ -18,29 +18,25 @@ pub fn wanted(l: Bitmaps, r: Bitmaps) -> Bitmaps
 }
 
 // The item of a prefix, by its values on the two sides and the covers that a one-sided item gets.
-pub fn item(q: Prefix, a: Value, b: Value, left: Cover, right: Cover) -> Emit
+pub fn item(q: Prefix, a: Value, b: Value, left: Cover, right: Cover) -> Option<Item>
     ensures { result ≡ emit_union q a b left right }
 {
-    match a {
-        Value::Missing => match b {
-            Value::Missing => Emit::Nothing,
-            Value::Is(y) => Emit::One(Item::Right {
-                prefix: q,
-                value: y,
-                cover: left,
-            }),
-        },
-        Value::Is(x) => match b {
-            Value::Missing => Emit::One(Item::Left {
-                prefix: q,
-                value: x,
-                cover: right,
-            }),
-            Value::Is(y) => Emit::One(Item::Both {
-                prefix: q,
-                left: x,
-                right: y,
-            }),
-        },
+    match (a, b) {
+        (None, None) => None,
+        (None, Some(value)) => Some(Item::Right {
+            prefix: q,
+            value,
+            cover: left,
+        }),
+        (Some(value), None) => Some(Item::Left {
+            prefix: q,
+            value,
+            cover: right,
+        }),
+        (Some(x), Some(y)) => Some(Item::Both {
+            prefix: q,
+            left: x,
+            right: y,
+        }),
     }
 }

@@ -1,5 +1,5 @@
 -- How code compares keys: a pair of nodes, its children place by place, and the whole call.
-use Rattle.std.specs.Prelude.{◌≡◌, refl, Bool, true, false, ◌||◌, List, [], ℕ, zero, suc, ◌+◌, ◌*◌, ◌-◌, ◌/◌, ◌%◌, ◌^◌, ◌≤◌, ◌<◌, eqb}
+use Rattle.std.specs.Prelude.{◌≡◌, refl, Bool, true, false, ◌||◌, List, [], ℕ, zero, suc, ◌+◌, ◌*◌, ◌-◌, ◌/◌, ◌%◌, ◌^◌, ◌≤◌, ◌<◌, eqb, None, Some}
 use Rattle.std.proofs.Common.{sym, ◌∙◌, ap, ap₂, subst, arith, eqb-true, eq-eqb, ne_eqb}
 use Rattle.std.proofs.lemmas.Bool.{false≢true}
 use Rattle.std.specs.Int.Count.{count_trailing_zeros}
@@ -19,8 +19,6 @@ use Rattle.bits.specs.Places.{place_prefix}
 use Rattle.bits.specs.PlaceLaws.{place_prefix_lem, child_place_lem}
 use Rattle.bits.specs.WordLaws.{bit_none}
 use Rattle.bits.specs.Worked.{one_shl}
-use Rattle.theory.specs.declared.Node.{Node}
-use Rattle.theory.specs.declared.Node.TheVariants as node
 use Rattle.theory.specs.Sides.{child_in}
 use Rattle.view.specs.Standing.{Sane, NodeIn, bitmaps_of, child_in_lem}
 use Rattle.view.specs.declared.Bitmaps.{Bitmaps}
@@ -28,11 +26,11 @@ use Rattle.view.specs.Spreads.{below_all, one, lowly}
 use Rattle.view.specs.Emptiness.{both_true, below_of, below_fails}
 use Rattle.view.specs.Kept.{kept_none}
 use Rattle.view.specs.Descent.{cut_to, node_down}
-use Rattle.walk.specs.declared.Roots.{Roots}
 use Rattle.rules.specs.BitLaws.{bit_or_lem}
 use Rattle.rules.specs.Wanted.{either_of}
-use Rattle.sets.specs.Listing.{side_of, Passed, passed_rows, depth_short, common_entering, common_left, common_right}
+use Rattle.sets.specs.Listing.{Passed, passed_rows, depth_short, common_entering, common_left, common_right}
 use Rattle.sets.specs.SameKeys.{kept, child_on, equal_at, whole_child, equal_says}
+use Rattle.theory.specs.Kinds.{Node}
 
 -- the children of two nodes at place c hold the same prefixes
 abbrev pub child_equal : Side → Side → ℕ → Node → Node → Prefix → ℕ → Bool
@@ -51,7 +49,7 @@ pub paired_short : {l r : Side} {p : Prefix} {a b : Node} {levels : ℕ} → Pai
 paired_short k = let d = k.depth in omega arith
 
 -- where no node is, nothing differs
-equal_none : (l r : Side) (levels : ℕ) (p : Prefix) → equal_at l r levels node.Absent node.Absent p ≡ true
+equal_none : (l r : Side) (levels : ℕ) (p : Prefix) → equal_at l r levels None None p ≡ true
 equal_none l r zero p = refl
 equal_none l r (suc levels) p =
     both_true (eq-eqb _ _ (sym (kept_none l.pool l.root p) ∙ kept_none r.pool r.root p)) (below_of _ 32 (λ c i. equal_none l r levels (deeper p 5 c)))
@@ -65,9 +63,9 @@ one_none true e = absurd (omega arith)
 one_none false e = refl
 
 -- no bit, no child
-no_child : (w : List ℕ) (root : Prefix) (o : Node) (c : ℕ) (q : Prefix) → bit c (bitmaps_of w o).child ≡ false → child_in w root o c q ≡ node.Absent
-no_child w root node.Absent c q e = refl
-no_child w root (node.At i) c q e = rw e
+no_child : (w : List ℕ) (root : Prefix) (o : Node) (c : ℕ) (q : Prefix) → bit c (bitmaps_of w o).child ≡ false → child_in w root o c q ≡ None
+no_child w root None c q e = refl
+no_child w root (Some i) c q e = rw e
 
 -- ---- one place
 module _ (l r : Side) (p : Prefix) (a b : Node) (levels : ℕ) (k : Paired l r p a b levels) (fits : p.key < 2 ^ 64) (c : ℕ) (i : c < 32) where
@@ -163,25 +161,19 @@ module _ (l r : Side) (p : Prefix) (a b : Node) (levels : ℕ) where
           sym (by_children ∙ below_of asked 32 (λ c i. k.so_far c i (ap (bit c) z ∙ bit_none 0 c 0 (omega arith) (omega arith))))
 
 -- ---- where the comparison starts
-module _ (l r : List ℕ) (roots : Roots) (fl : roots.left.key < 2 ^ 64) (fr : roots.right.key < 2 ^ 64)
-    (ll : roots.left.len ≤ 64) (lr : roots.right.len ≤ 64) (sl : Sane l) (sr : Sane r) (m : ℕ) (em : m ≡ common_len roots.left roots.right) where
-  abbrev L : Side
-  L = side_of l roots.left
-
-  abbrev R : Side
-  R = side_of r roots.right
-
+module _ (L R : Side) (fl : L.root.key < 2 ^ 64) (fr : R.root.key < 2 ^ 64)
+    (ll : L.root.len ≤ 64) (lr : R.root.len ≤ 64) (sl : Sane L.pool) (sr : Sane R.pool) (m : ℕ) (em : m ≡ common_len L.root R.root) where
   -- the levels below the start
   abbrev n : ℕ
   n = 12 - m / 5 * 5 / 5
 
   pub start_short : m / 5 * 5 ≤ 60
-  start_short = depth_short Union l r roots fl fr ll lr sl sr m em
+  start_short = depth_short Union L R fl fr ll lr sl sr m em
 
-  module _ (a b : Node) (ea : a ≡ node_down l roots.left (m / 5 * 5 / 5)) (eb : b ≡ node_down r roots.right (m / 5 * 5 / 5)) (q : Prefix) (eq : q ≡ cut_to roots.left (m / 5 * 5)) where
+  module _ (a b : Node) (ea : a ≡ node_down L.pool L.root (m / 5 * 5 / 5)) (eb : b ≡ node_down R.pool R.root (m / 5 * 5 / 5)) (q : Prefix) (eq : q ≡ cut_to L.root (m / 5 * 5)) where
     pub start_paired : Paired L R q a b n
     start_paired =
-        let k = common_entering Union l r roots fl fr ll lr sl sr m em a b ea eb q eq in
+        let k = common_entering Union L R fl fr ll lr sl sr m em a b ea eb q eq in
         record {
           sane_left = sl;
           sane_right = sr;
@@ -194,7 +186,7 @@ module _ (l r : List ℕ) (roots : Roots) (fl : roots.left.key < 2 ^ 64) (fr : r
     pub start_equal : (t : Bool) → t ≡ equal_at L R (suc n) a b q → t ≡ same_keys (entries_of L) (entries_of R)
     start_equal t e =
         e ∙ sym (equal_says L R (suc n) a b q start_paired.whole start_paired.depth)
-        ∙ sym (ap₂ same_keys (common_left Union l r roots fl fr ll lr sl sr m em a b ea eb q eq) (common_right Union l r roots fl fr ll lr sl sr m em a b ea eb q eq))
+        ∙ sym (ap₂ same_keys (common_left Union L R fl fr ll lr sl sr m em a b ea eb q eq) (common_right Union L R fl fr ll lr sl sr m em a b ea eb q eq))
 
 -- ---- the whole call
 module _ (width : ℕ) (l r : Side) where
@@ -203,12 +195,6 @@ module _ (width : ℕ) (l r : Side) where
 
   -- where the tests passed, the comparison decides
   module _ (p : Passed width l r) (t : Bool) (e : t ≡ same_keys (entries_of l) (entries_of r)) where
-    equal_passed : answer 0 (if t then 1 otherwise 0) 0 ≡ equal_outcome width l r
+    pub equal_passed : answer 0 (if t then 1 otherwise 0) 0 ≡ equal_outcome width l r
     equal_passed =
         ap (λ (x : Bool). answer 0 (if x then 1 otherwise 0) 0) e ∙ sym (first_passes (side_rows width l r) [] (if same_keys (entries_of l) (entries_of r) then 1 otherwise 0) (passed_rows width l r p))
-
-    pub equal_yes : t ≡ true → (a : Answer) → a ≡ answer 0 1 0 → a ≡ equal_outcome width l r
-    equal_yes h a ea = ea ∙ ap (λ (x : Bool). answer 0 (if x then 1 otherwise 0) 0) (sym h) ∙ equal_passed
-
-    pub equal_no : t ≡ false → (a : Answer) → a ≡ answer 0 0 0 → a ≡ equal_outcome width l r
-    equal_no h a ea = ea ∙ ap (λ (x : Bool). answer 0 (if x then 1 otherwise 0) 0) (sym h) ∙ equal_passed

@@ -1,9 +1,9 @@
 -- A list call from its tests to its records: the refusal table, and where the walk starts.
-use Rattle.std.specs.Prelude.{◌≡◌, refl, true, false, ◌||◌, List, [], ◌∷◌, ◌++◌, ℕ, zero, suc, ◌+◌, ◌*◌, ◌-◌, ◌/◌, ◌^◌, ◌≤◌, ◌<◌, eqb, ltb, length, drop}
-use Rattle.std.proofs.Common.{sym, ◌∙◌, ap₂, subst, append-nil, arith, eqb-true, lt-ltb, le-ltb, ltb-false}
+use Rattle.std.specs.Prelude.{◌≡◌, refl, true, false, ◌||◌, List, [], ◌∷◌, ◌++◌, ℕ, zero, suc, ◌+◌, ◌*◌, ◌-◌, ◌/◌, ◌^◌, ◌≤◌, ◌<◌, eqb, ltb, length, drop, Ok, Err}
+use Rattle.std.proofs.Common.{ltb-false, sym, ◌∙◌, ap₂, subst, append-nil, arith, eqb-true, lt-ltb, le-ltb}
 use Rattle.std.proofs.Math.Path.{ap}
 use Rattle.std.proofs.Math.Nat.{mul-div_right}
-use Rattle.std.proofs.lemmas.Bool.{eqb-false}
+use Rattle.std.proofs.lemmas.Bool.{false≢true}
 use Rattle.defs.specs.declared.Prefix.{Prefix}
 use Rattle.defs.specs.declared.Answer.{Answer}
 use Rattle.defs.specs.declared.Operation.{Operation}
@@ -15,13 +15,17 @@ use Rattle.defs.specs.Lists.{Record, record_words, records_of}
 use Rattle.defs.specs.Lemmas.{All, nil, more, split}
 use Rattle.defs.specs.Outcome
 use Rattle.defs.specs.Outcome.{Row, answer, first_of, Side, entries_of, side_rows, list_rows, room_row, written, Listed, list_outcome, check_outcome}
+use Rattle.defs.specs.declared.refusals.PoolError.{PoolError}
+use Rattle.defs.specs.declared.refusals.PoolError.TheVariants as NoPool
+use Rattle.defs.specs.declared.refusals.Refusal.{Refusal}
+use Rattle.defs.specs.declared.refusals.Refusal.TheVariants.{Width, LeftPool, RightPool, LeftRoot, RightRoot, Room, ValueRoom, Line}
+use Rattle.defs.specs.Refusals.{answer_for, checked, on_left, on_right}
 use Rattle.defs.specs.OutcomeLaws.{first_stays, first_passes, refused_keeps}
 use Rattle.defs.specs.PrefixLaws.{cut}
 use Rattle.bits.specs.Words.{common_len}
 use Rattle.bits.specs.CommonLaws.{common_le, common_says}
 use Rattle.pool.specs.Sound.{formed, values_before}
-use Rattle.pool.specs.Answers.{zero_says, one_says, one_of, two_says, two_else}
-use Rattle.theory.specs.declared.Node.{Node}
+use Rattle.pool.specs.Answers.{zero_says, one_says, two_says, two_else}
 use Rattle.theory.specs.declared.Level.{Level}
 use Rattle.theory.specs.Sides.{side_entries}
 use Rattle.theory.specs.declared.Covers.{Covers}
@@ -29,12 +33,14 @@ use Rattle.theory.specs.Steps.{Job, carried, enter, no_covers, level_rest}
 use Rattle.theory.specs.Start.{start_ok, start_list}
 use Rattle.theory.specs.Loop.{records_words, words_length}
 use Rattle.view.specs.Standing.{Sane}
+use Rattle.view.specs.Seen.{seen}
+use Rattle.sets.specs.declared.sides.Sides.{Sides}
 use Rattle.view.specs.Descent.{cut_to, node_down, whole_cut, view_down, node_down_in}
-use Rattle.walk.specs.declared.Roots.{Roots}
-use Rattle.walk.specs.Ready.{job_of, Entering, Ready}
+use Rattle.walk.specs.Ready.{Entering, Ready}
 use Rattle.sets.specs.Aligned.{depth_at}
 use Rattle.sets.specs.Bound.{most_from, values_of, list_most, values_fit}
 use Rattle.walk.specs.Loops.{written_over}
+use Rattle.theory.specs.Kinds.{Node}
 
 -- a side of a call
 abbrev pub side_of : List ℕ → Prefix → Side
@@ -68,14 +74,6 @@ module _ (width : ℕ) (l r : Side) where
   refused_2 e =
       let f = two_says width l.pool e in
       ap (λ (n : ℕ). answer 2 n 0) f.node ∙ rw (f.width_known, lt-ltb 0 (fault_of width l.pool).number f.some)
-
-  -- left pool good
-  pub left_good : ((check_outcome width l.pool).number ≡ 1 → ⊥) → ((check_outcome width l.pool).number ≡ 2 → ⊥) → (check_outcome width l.pool).number ≡ 0
-  left_good a b =
-      split (eqb (check_outcome width l.pool).number 0) (λ e. eqb-true _ _ e)
-      (λ e.
-      split (eqb width 32 || eqb width 64) (λ k. absurd (b (two_else width l.pool k (eqb-false _ _ e))))
-      (λ k. absurd (a (ap (λ (x : Answer). x.number) (one_of width l.pool k)))))
 
   -- refusal 3
   pub refused_3 : (check_outcome width l.pool).number ≡ 0 → ((check_outcome width r.pool).number ≡ 0 → ⊥) → answer 3 (check_outcome width r.pool).beside 0 ≡ first_of (side_rows width l r) 0
@@ -222,66 +220,66 @@ module _ (op : Operation) (width : ℕ) (l r : Side) (out : List ℕ) where
       decided a e = ap (λ (x : Answer). leaves x (written x (records_words records) out)) e
 
 -- ---- where the walk starts
-module _ (op : Operation) (l r : List ℕ) (roots : Roots) (fl : roots.left.key < 2 ^ 64) (fr : roots.right.key < 2 ^ 64)
-    (ll : roots.left.len ≤ 64) (lr : roots.right.len ≤ 64) (sl : Sane l) (sr : Sane r) where
+module _ (op : Operation) (L R : Side) (fl : L.root.key < 2 ^ 64) (fr : R.root.key < 2 ^ 64)
+    (ll : L.root.len ≤ 64) (lr : R.root.len ≤ 64) (sl : Sane L.pool) (sr : Sane R.pool) where
   abbrev j : Job
-  j = job_of op l r roots
+  j = record { op = op; left = L; right = R }
 
   -- the levels above the start: those of the common length
   abbrev K : ℕ
-  K = common_len roots.left roots.right / 5
+  K = common_len L.root R.root / 5
 
   small : K ≤ 12
-  small = let c = common_le roots.left roots.right in omega arith
+  small = let c = common_le L.root R.root in omega arith
 
-  left_deep : 5 * K ≤ roots.left.len
-  left_deep = let c = common_le roots.left roots.right in omega arith
+  left_deep : 5 * K ≤ L.root.len
+  left_deep = let c = common_le L.root R.root in omega arith
 
-  right_deep : 5 * K ≤ roots.right.len
-  right_deep = let c = common_le roots.left roots.right in omega arith
+  right_deep : 5 * K ≤ R.root.len
+  right_deep = let c = common_le L.root R.root in omega arith
 
   abbrev p : Prefix
-  p = cut_to roots.left (5 * K)
+  p = cut_to L.root (5 * K)
 
   -- both roots have the same first bits there
-  same_cut : cut_to roots.right (5 * K) ≡ p
+  same_cut : cut_to R.root (5 * K) ≡ p
   unfolding cut
   same_cut =
-      let e = common_says roots.left roots.right fl fr (5 * K) (omega arith) in
+      let e = common_says L.root R.root fl fr (5 * K) (omega arith) in
       ap (λ (n : ℕ). record { key = n * 2 ^ (64 - 5 * K); len = 5 * K }) (sym e)
 
   levels : suc ((60 - 5 * K) / 5) + K ≡ 13
   levels = let s = small in let e : 60 - 5 * K ≡ 5 * (12 - K) = omega arith in rw (e, mul-div_right (12 - K) {m = 5} (omega arith)) (omega arith)
 
-  pub entering : Entering j p (node_down l roots.left K) (node_down r roots.right K)
+  pub entering : Entering j p (node_down L.pool L.root K) (node_down R.pool R.root K)
   entering =
       record {
         sane_left = sl;
         sane_right = sr;
-        in_left = node_down_in l roots.left sl K;
-        in_right = node_down_in r roots.right sr K;
-        whole = whole_cut roots.left (5 * K);
+        in_left = node_down_in L.pool L.root sl K;
+        in_right = node_down_in R.pool R.root sr K;
+        whole = whole_cut L.root (5 * K);
         short = let s = small in omega arith;
         fives = omega arith;
       }
 
-  pub first_ready : Ready j (enter j p (node_down l roots.left K) (node_down r roots.right K) no_covers)
-  first_ready = record { at = entering; ok = start_ok j p (whole_cut roots.left (5 * K)) (depth_at K small) (node_down l roots.left K) (node_down r roots.right K) }
+  pub first_ready : Ready j (enter j p (node_down L.pool L.root K) (node_down R.pool R.root K) no_covers)
+  first_ready = record { at = entering; ok = start_ok j p (whole_cut L.root (5 * K)) (depth_at K small) (node_down L.pool L.root K) (node_down R.pool R.root K) }
 
   -- both views lie in the two nodes
-  left_view : entries_of (side_of l roots.left) ≡ side_entries l roots.left (suc ((60 - 5 * K) / 5)) (node_down l roots.left K) p
-  left_view = view_down l roots.left fl ll K (suc ((60 - 5 * K) / 5)) levels left_deep
+  left_view : entries_of L ≡ side_entries L.pool L.root (suc ((60 - 5 * K) / 5)) (node_down L.pool L.root K) p
+  left_view = view_down L.pool L.root fl ll K (suc ((60 - 5 * K) / 5)) levels left_deep
 
-  right_view : entries_of (side_of r roots.right) ≡ side_entries r roots.right (suc ((60 - 5 * K) / 5)) (node_down r roots.right K) p
+  right_view : entries_of R ≡ side_entries R.pool R.root (suc ((60 - 5 * K) / 5)) (node_down R.pool R.root K) p
   right_view =
-      view_down r roots.right fr lr K (suc ((60 - 5 * K) / 5)) levels right_deep ∙ ap (side_entries r roots.right (suc ((60 - 5 * K) / 5)) (node_down r roots.right K)) same_cut
+      view_down R.pool R.root fr lr K (suc ((60 - 5 * K) / 5)) levels right_deep ∙ ap (side_entries R.pool R.root (suc ((60 - 5 * K) / 5)) (node_down R.pool R.root K)) same_cut
 
-  pub first_list : records_of op (entries_of (side_of l roots.left)) (entries_of (side_of r roots.right)) ≡ level_rest j (enter j p (node_down l roots.left K) (node_down r roots.right K) no_covers)
+  pub first_list : records_of op (entries_of L) (entries_of R) ≡ level_rest j (enter j p (node_down L.pool L.root K) (node_down R.pool R.root K) no_covers)
   first_list =
-      start_list j p (whole_cut roots.left (5 * K)) (depth_at K small) (node_down l roots.left K) (node_down r roots.right K) left_view right_view
+      start_list j p (whole_cut L.root (5 * K)) (depth_at K small) (node_down L.pool L.root K) (node_down R.pool R.root K) left_view right_view
 
   -- the same as code works it out, from the common length m
-  module _ (m : ℕ) (em : m ≡ common_len roots.left roots.right) where
+  module _ (m : ℕ) (em : m ≡ common_len L.root R.root) where
     depth_is : m / 5 * 5 ≡ 5 * K
     depth_is = let e = ap (λ (n : ℕ). n / 5) em in omega arith
 
@@ -291,45 +289,45 @@ module _ (op : Operation) (l r : List ℕ) (roots : Roots) (fl : roots.left.key 
     pub depth_short : m / 5 * 5 ≤ 60
     depth_short = let s = small in let e = depth_is in omega arith
 
-    module _ (a b : Node) (ea : a ≡ node_down l roots.left (m / 5 * 5 / 5)) (eb : b ≡ node_down r roots.right (m / 5 * 5 / 5)) (q : Prefix) (eq : q ≡ cut_to roots.left (m / 5 * 5)) where
+    module _ (a b : Node) (ea : a ≡ node_down L.pool L.root (m / 5 * 5 / 5)) (eb : b ≡ node_down R.pool R.root (m / 5 * 5 / 5)) (q : Prefix) (eq : q ≡ cut_to L.root (m / 5 * 5)) where
       prefix_is : q ≡ p
-      prefix_is = eq ∙ ap (cut_to roots.left) depth_is
+      prefix_is = eq ∙ ap (cut_to L.root) depth_is
 
-      left_is : a ≡ node_down l roots.left K
-      left_is = ea ∙ ap (node_down l roots.left) down_is
+      left_is : a ≡ node_down L.pool L.root K
+      left_is = ea ∙ ap (node_down L.pool L.root) down_is
 
-      right_is : b ≡ node_down r roots.right K
-      right_is = eb ∙ ap (node_down r roots.right) down_is
+      right_is : b ≡ node_down R.pool R.root K
+      right_is = eb ∙ ap (node_down R.pool R.root) down_is
 
       pub common_entering : Entering j q a b
       common_entering =
           subst (λ (x : Prefix). Entering j x a b) (sym prefix_is)
-          (subst (λ (x : Node). Entering j p x b) (sym left_is) (subst (Entering j p (node_down l roots.left K)) (sym right_is) entering))
+          (subst (λ (x : Node). Entering j p x b) (sym left_is) (subst (Entering j p (node_down L.pool L.root K)) (sym right_is) entering))
 
       levels_are : suc ((60 - 5 * K) / 5) ≡ suc (12 - m / 5 * 5 / 5)
       levels_are = let s = small in let n = levels in let e = down_is in omega arith
 
       -- both views lie in the two nodes, so many levels deep
-      pub common_left : entries_of (side_of l roots.left) ≡ side_entries l roots.left (suc (12 - m / 5 * 5 / 5)) a q
+      pub common_left : entries_of L ≡ side_entries L.pool L.root (suc (12 - m / 5 * 5 / 5)) a q
       common_left =
-          left_view ∙ ap₂ (λ (n : ℕ) (x : Prefix). side_entries l roots.left n (node_down l roots.left K) x) levels_are (sym prefix_is)
-          ∙ ap (λ (x : Node). side_entries l roots.left (suc (12 - m / 5 * 5 / 5)) x q) (sym left_is)
+          left_view ∙ ap₂ (λ (n : ℕ) (x : Prefix). side_entries L.pool L.root n (node_down L.pool L.root K) x) levels_are (sym prefix_is)
+          ∙ ap (λ (x : Node). side_entries L.pool L.root (suc (12 - m / 5 * 5 / 5)) x q) (sym left_is)
 
-      pub common_right : entries_of (side_of r roots.right) ≡ side_entries r roots.right (suc (12 - m / 5 * 5 / 5)) b q
+      pub common_right : entries_of R ≡ side_entries R.pool R.root (suc (12 - m / 5 * 5 / 5)) b q
       common_right =
-          right_view ∙ ap₂ (λ (n : ℕ) (x : Prefix). side_entries r roots.right n (node_down r roots.right K) x) levels_are (sym prefix_is)
-          ∙ ap (λ (x : Node). side_entries r roots.right (suc (12 - m / 5 * 5 / 5)) x q) (sym right_is)
+          right_view ∙ ap₂ (λ (n : ℕ) (x : Prefix). side_entries R.pool R.root n (node_down R.pool R.root K) x) levels_are (sym prefix_is)
+          ∙ ap (λ (x : Node). side_entries R.pool R.root (suc (12 - m / 5 * 5 / 5)) x q) (sym right_is)
 
       module _ (c : Covers) (ec : c ≡ no_covers) (f : Level) (ef : f ≡ enter j q a b c) where
-        first_is : f ≡ enter j p (node_down l roots.left K) (node_down r roots.right K) no_covers
+        first_is : f ≡ enter j p (node_down L.pool L.root K) (node_down R.pool R.root K) no_covers
         first_is =
-            ef ∙ ap (λ (x : Prefix). enter j x a b c) prefix_is ∙ ap (λ (x : Node). enter j p x b c) left_is ∙ ap (λ (x : Node). enter j p (node_down l roots.left K) x c) right_is
-            ∙ ap (enter j p (node_down l roots.left K) (node_down r roots.right K)) ec
+            ef ∙ ap (λ (x : Prefix). enter j x a b c) prefix_is ∙ ap (λ (x : Node). enter j p x b c) left_is ∙ ap (λ (x : Node). enter j p (node_down L.pool L.root K) x c) right_is
+            ∙ ap (enter j p (node_down L.pool L.root K) (node_down R.pool R.root K)) ec
 
         pub common_ready : Ready j f
         common_ready = subst (Ready j) (sym first_is) first_ready
 
-        pub common_list : records_of op (entries_of (side_of l roots.left)) (entries_of (side_of r roots.right)) ≡ level_rest j f
+        pub common_list : records_of op (entries_of L) (entries_of R) ≡ level_rest j f
         common_list = first_list ∙ ap (level_rest j) (sym first_is)
 
 -- no covers are carried on as none
@@ -344,46 +342,63 @@ carries_none op c e = rw e (go op)
     go CoveringUnion = refl
 
 -- ---- the refusals, as code tests them
-module _ (width : ℕ) (l r : Side) (a : Answer) (ea : a ≡ check_outcome width l.pool) where
-  pub code_1 : a.number ≡ 1 → answer 1 0 0 ≡ first_of (side_rows width l r) 0
-  code_1 h = refused_1 width l r (sym (ap (λ (x : Answer). x.number) ea) ∙ h)
 
-  pub code_2 : a.number ≡ 2 → answer 2 a.beside 0 ≡ first_of (side_rows width l r) 0
-  code_2 h = ap (λ (x : Answer). answer 2 x.beside 0) ea ∙ refused_2 width l r (sym (ap (λ (x : Answer). x.number) ea) ∙ h)
+-- the sides that were opened are those of the call, and its tests passed
+pub record Opened (width : ℕ) (l r : Side) (s : Sides) : Type 0 where
+  pub left_is : seen s.left ≡ l
+  pub right_is : seen s.right ≡ r
+  pub passed : Passed width (seen s.left) (seen s.right)
 
-  module _ (n1 : a.number ≡ 1 → ⊥) (n2 : a.number ≡ 2 → ⊥) (b : Answer) (eb : b ≡ check_outcome width r.pool) where
+-- a refusal is never answered by 0
+pub refusal_some : (e : Refusal) → (answer_for e).number ≡ 0 → ⊥
+refusal_some Width h = omega arith
+refusal_some (LeftPool n) h = omega arith
+refusal_some (RightPool n) h = omega arith
+refusal_some LeftRoot h = omega arith
+refusal_some RightRoot h = omega arith
+refusal_some (Room n) h = omega arith
+refusal_some (ValueRoom n) h = omega arith
+refusal_some (Line n) h = omega arith
+
+module _ (width : ℕ) (l r : Side) where
+  pub left_refused : (e : PoolError) → checked (Err e) ≡ check_outcome width l.pool → answer_for (on_left e) ≡ first_of (side_rows width l r) 0
+  left_refused NoPool.Width h = refused_1 width l r (sym (ap (λ (x : Answer). x.number) h))
+  left_refused (NoPool.Fault f n) h = ap (λ (x : Answer). answer 2 x.beside 0) h ∙ refused_2 width l r (sym (ap (λ (x : Answer). x.number) h))
+
+  module _ (m : ℕ) (k : checked (Ok m) ≡ check_outcome width l.pool) where
     left_zero : (check_outcome width l.pool).number ≡ 0
-    left_zero = left_good width l r (λ h. n1 (ap (λ (x : Answer). x.number) ea ∙ h)) (λ h. n2 (ap (λ (x : Answer). x.number) ea ∙ h))
+    left_zero = sym (ap (λ (x : Answer). x.number) k)
 
-    pub code_3 : (b.number ≡ 0 → ⊥) → answer 3 b.beside 0 ≡ first_of (side_rows width l r) 0
-    code_3 h = ap (λ (x : Answer). answer 3 x.beside 0) eb ∙ refused_3 width l r left_zero (λ k. h (ap (λ (x : Answer). x.number) eb ∙ k))
+    pub right_refused : (e : PoolError) → checked (Err e) ≡ check_outcome width r.pool → answer_for (on_right e) ≡ first_of (side_rows width l r) 0
+    right_refused NoPool.Width h =
+        let known = (zero_says width l.pool left_zero).0 in
+        let unknown = one_says width r.pool (sym (ap (λ (x : Answer). x.number) h)) in
+        absurd (false≢true (sym unknown ∙ known))
+    right_refused (NoPool.Fault f n) h =
+        ap (λ (x : Answer). answer 3 x.beside 0) h ∙ refused_3 width l r left_zero (λ z. let two = ap (λ (x : Answer). x.number) h in omega arith)
 
-    module _ (h : b.number ≡ 0) where
+    module _ (n : ℕ) (i : checked (Ok n) ≡ check_outcome width r.pool) where
       right_zero : (check_outcome width r.pool).number ≡ 0
-      right_zero = sym (ap (λ (x : Answer). x.number) eb) ∙ h
+      right_zero = sym (ap (λ (x : Answer). x.number) i)
 
-      pub code_4 : width < l.root.len → answer 4 0 0 ≡ first_of (side_rows width l r) 0
-      code_4 = refused_4 width l r left_zero right_zero
+      pub left_long : width < l.root.len → answer 4 0 0 ≡ first_of (side_rows width l r) 0
+      left_long = refused_4 width l r left_zero right_zero
 
-      pub code_5 : l.root.len ≤ width → width < r.root.len → answer 5 0 0 ≡ first_of (side_rows width l r) 0
-      code_5 = refused_5 width l r left_zero right_zero
+      pub right_long : l.root.len ≤ width → width < r.root.len → answer 5 0 0 ≡ first_of (side_rows width l r) 0
+      right_long = refused_5 width l r left_zero right_zero
 
-      pub code_0 : l.root.len ≤ width → r.root.len ≤ width → answer 0 0 0 ≡ first_of (side_rows width l r) 0
-      code_0 i k = passed_answer width l r (all_passed width l r left_zero right_zero i k)
+      pub both_passed : l.root.len ≤ width → r.root.len ≤ width → Passed width l r
+      both_passed = all_passed width l r left_zero right_zero
 
 -- ---- a list call, as code makes it
-module _ (op : Operation) (width : ℕ) (l r : Side) (a : Answer) (ea : a ≡ first_of (side_rows width l r) 0) (z : a.number ≡ 0) where
-  pub call_passed : Passed width l r
-  call_passed = zero_passed width l r (sym (ap (λ (x : Answer). x.number) ea) ∙ z)
-
+module _ (op : Operation) (width : ℕ) (l r : Side) (p : Passed width l r) where
   pub left_short : l.root.len ≤ 64
-  left_short = let w = passed_width width l r call_passed in let k = call_passed.left_root in omega arith
+  left_short = let w = passed_width width l r p in let k = p.left_root in omega arith
 
   pub right_short : r.root.len ≤ 64
-  right_short = let w = passed_width width l r call_passed in let k = call_passed.right_root in omega arith
+  right_short = let w = passed_width width l r p in let k = p.right_root in omega arith
 
   pub list_few : (f : Level) → let j : Job = record { op = op; left = l; right = r } in records_of op (entries_of l) (entries_of r) ≡ level_rest j f → Few j f
   list_few f e =
-      let p = call_passed in
       subst (λ (rs : List Record). length rs ≤ most_from op (values_of l.pool) (values_of r.pool)) e
       (list_most op width l r (formed width l.pool p.left_pool) (formed width r.pool p.right_pool))

@@ -1,5 +1,5 @@
 -- Key equality, level by level: two nodes of one prefix hold the same prefixes exactly where they keep the same data bits and the children of each place do.
-use Rattle.std.specs.Prelude.{◌≡◌, refl, Bool, true, false, not, ◌&&◌, List, [], ◌∷◌, map, ℕ, zero, suc, ◌+◌, ◌*◌, ◌^◌, ◌≤◌, ◌<◌, eqb}
+use Rattle.std.specs.Prelude.{◌≡◌, refl, Bool, true, false, not, ◌&&◌, List, [], ◌∷◌, map, ℕ, zero, suc, ◌+◌, ◌*◌, ◌^◌, ◌≤◌, ◌<◌, eqb, None, Some}
 use Rattle.std.proofs.Common.{sym, ◌∙◌, ap, ap₂, arith, eqb-true, eq-eqb}
 use Rattle.std.proofs.lemmas.Bool.{false≢true}
 use Rattle.std.proofs.Math.Option.{none}
@@ -20,11 +20,6 @@ use Rattle.defs.specs.Outcome.{Side}
 use Rattle.defs.proofs.DeeperLaws.{whole_deeper}
 use Rattle.bits.specs.Places.{place_len, place_value}
 use Rattle.bits.specs.PlaceLaws.{made, place_len_below}
-use Rattle.theory.specs.declared.Node.{Node}
-use Rattle.theory.specs.declared.Node.TheVariants as node
-use Rattle.theory.specs.declared.Value.{Value}
-use Rattle.theory.specs.declared.Value.TheVariants.{Missing, Is}
-use Rattle.theory.specs.declared.Cover.TheVariants.{Nothing}
 use Rattle.theory.specs.Picks.{Good, picks, list_picks}
 use Rattle.theory.specs.Nodes.{above_place, place_records}
 use Rattle.theory.specs.Sides.{side_held, side_entries, child_in, value_in, entry_at, side_fits, side_data, side_child}
@@ -36,6 +31,7 @@ use Rattle.view.specs.Spreads.{below_all, below_at, word_on}
 use Rattle.view.specs.Covered.{words_of, data_place_at, up_below}
 use Rattle.view.specs.Kept.{is_value, held_by, kept_of, kept_bit_lem}
 use Rattle.view.specs.Emptiness.{is_nil, both_true, nil_each, every_all, all_every, below_of, place_all}
+use Rattle.theory.specs.Kinds.{Node, Value}
 
 -- the data bits that a side's node of prefix p keeps
 abbrev pub kept : Side → Node → Prefix → ℕ
@@ -78,16 +74,16 @@ every_same f g h (x ∷ xs) = ap₂ ◌&&◌ (h x) (every_same f g h xs)
 
 -- one entry or none of one prefix on each side
 entries_same : (q : Prefix) (u v : Value) → same_keys (entry_at q u) (entry_at q v) ≡ true → is_value u ≡ is_value v
-entries_same q Missing Missing e = refl
-entries_same q Missing (Is v) e = absurd (false≢true e)
-entries_same q (Is u) Missing e = absurd (false≢true e)
-entries_same q (Is u) (Is v) e = refl
+entries_same q None None e = refl
+entries_same q None (Some v) e = absurd (false≢true e)
+entries_same q (Some u) None e = absurd (false≢true e)
+entries_same q (Some u) (Some v) e = refl
 
 same_entries : (q : Prefix) (u v : Value) → is_value u ≡ is_value v → same_keys (entry_at q u) (entry_at q v) ≡ true
-same_entries q Missing Missing e = refl
-same_entries q Missing (Is v) e = absurd (false≢true e)
-same_entries q (Is u) Missing e = absurd (false≢true (sym e))
-same_entries q (Is u) (Is v) e = rw (same_self q)
+same_entries q None None e = refl
+same_entries q None (Some v) e = absurd (false≢true e)
+same_entries q (Some u) None e = absurd (false≢true (sym e))
+same_entries q (Some u) (Some v) e = rw (same_self q)
 
 -- ---- the places of two nodes
 
@@ -96,8 +92,8 @@ whole_child p w zero e c = whole_long (deeper p 5 c) (omega arith)
 whole_child p w (suc lv) e c = whole_deeper p w 5 (omega arith) c
 
 side_good : (s : Side) (lv : ℕ) (o : Node) (p : Prefix) → Whole p → p.len + 5 * lv ≡ 65 → Good (side_entries s.pool s.root lv o p)
-side_good s lv node.Absent p w e = record { asc = end; real = nil }
-side_good s lv (node.At i) p w e =
+side_good s lv None p w e = record { asc = end; real = nil }
+side_good s lv (Some i) p w e =
     let k = sound_under s.root p (entries_at s.pool lv i p) (sound s.pool lv i p w e) in
     record { asc = k.ascend; real = k.all_real }
 
@@ -119,8 +115,8 @@ module _ (lv : ℕ) (p : Prefix) (w : Whole p) (e : p.len + 5 * suc lv ≡ 65) w
   held_long s o (child_place c) = all_imp (λ y k. leads_len (deeper p 5 c) y k) ((fits s o).child_led c (whole_child p w lv e c))
 
   above_short : (s : Side) (o : Node) (x : Place) → Shorter (above_place p (held s o) none x) (p.len + place_bits x)
-  above_short s o (data_place n v) = shorter_above s lv o p Nothing tt n v
-  above_short s o (child_place c) = shorter_above s lv o p Nothing tt 5 c
+  above_short s o (data_place n v) = shorter_above s lv o p None tt n v
+  above_short s o (child_place c) = shorter_above s lv o p None tt 5 c
 
   -- the difference of two nodes is that of their places
   node_less : (s t : Side) (a b : Node)
@@ -206,9 +202,9 @@ module _ (l r : Side) where
 
   -- FOR CALLERS: two nodes hold the same prefixes exactly where they are equal level by level
   pub equal_says : (lv : ℕ) (a b : Node) (p : Prefix) → Whole p → p.len + 5 * lv ≡ 65 → same lv a b p ≡ equal_at l r lv a b p
-  equal_says zero node.Absent node.Absent p w e = refl
-  equal_says zero node.Absent (node.At j) p w e = refl
-  equal_says zero (node.At i) node.Absent p w e = refl
-  equal_says zero (node.At i) (node.At j) p w e = refl
+  equal_says zero None None p w e = refl
+  equal_says zero None (Some j) p w e = refl
+  equal_says zero (Some i) None p w e = refl
+  equal_says zero (Some i) (Some j) p w e = refl
   equal_says (suc lv) a b p w e =
       one_level lv a b p w e (λ c. equal_says lv (child_on l a p c) (child_on r b p c) (deeper p 5 c) (whole_child p w lv e c) (omega arith))

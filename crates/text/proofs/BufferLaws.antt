@@ -1,15 +1,12 @@
 -- Parts of a lent buffer, and texts written one after the other.
-use mathlib.Core.Path.{◌≡◌, refl, sym, ◌∙◌, ap, ap₂, subst}
-use mathlib.Core.List.{List, [], ◌∷◌, ◌++◌, append_assoc, append-nil}
-use Prim.Native.Nat.{ℕ, suc, ◌+◌, ◌-◌, ◌^◌, ◌<◌, ◌≤◌, min}
+use mathlib.Core.Path.{◌≡◌, sym, ◌∙◌, ap, ap₂, subst}
+use mathlib.Core.List.{List, [], ◌++◌, append_assoc, append-nil}
+use Prim.Native.Nat.{ℕ, ◌+◌, ◌-◌, ◌<◌, ◌≤◌}
 use native.Mathlib.Omega.{arith}
-use native.Mathlib.Numerals.{add-one}
-use lib.ListN.{length, get_or, take, drop, set, length-append, length-take, length-drop, drop_of_length-le}
-use lib.Seq.{drop-drop, drop-cons, drop-nil, take-nil, take_all, take_at, drop_at, take-suc, append_snoc, set_at, take-append-le, take-append-add}
+use lib.ListN.{length, take, drop, length-append, length-take, length-drop, drop_of_length-le}
+use lib.Seq.{drop-drop, drop-nil, take_all, take_at, drop_at, take-append-le, take-append-add}
 use lib.Dec.{leb}
 use borrow.Author.Tests.{leb-true, leb-false}
-use mir.Syntax.{w64}
-use mir.Val.{Fits}
 use borrow.Rule.Slice.PartMut.{put_mid}
 use Rattle.defs.specs.Lemmas.{split}
 use Rattle.text.specs.Output.{cut, Wrote}
@@ -33,10 +30,6 @@ module _ (text old new : List ℕ) (count : ℕ) (w : Wrote text old count new) 
 
   pub wrote_within : count ≤ length new
   wrote_within = omega (arith, w.counted, wrote_length)
-
--- so the count fits 64 bits
-pub wrote_fits : {text old new : List ℕ} {count : ℕ} → Wrote text old count new → length old < 2 ^ 64 → Fits w64 count
-wrote_fits w l = record { fits = omega (arith, w.counted) }
 
 -- a text after another, where there is room for the first, and where there is none
 module _ (a b x y z : List ℕ) (r s : ℕ) (wa : Wrote a x r y) (wb : Wrote b (drop r y) s z) where
@@ -102,60 +95,6 @@ module _ (a x y : List ℕ) (r : ℕ) (wa : Wrote a x r y) (b z : List ℕ) (s :
 
   pub wrote_next : Wrote (a ++ b) x (r + s) (put_mid r (length y - r) y z)
   wrote_next = rw (back y r (wrote_within a x y r wa) z) (joined a b x y z r s wa lent_rest)
-
-  pub next_within : r + s ≤ length x
-  next_within = omega (arith, wa.counted, lent_rest.counted, length-drop r y, wrote_length a x y r wa)
-
--- copying a text byte by byte
-pub record Copying (text old : List ℕ) (n : ℕ) (new : List ℕ) (i : ℕ) : Type 0 where
-  pub within : i ≤ n
-  pub short : n ≡ min (length text) (length old)
-  pub so_far : new ≡ take i text ++ drop i old
-
-module _ (text old : List ℕ) (n : ℕ) (new : List ℕ) (i : ℕ) (k : Copying text old n new i) where
-  pub copy_length : length new ≡ length old
-  copy_length =
-      ap length k.so_far ∙ length-append (take i text) (drop i old)
-      ∙ omega (arith, length-take i text, length-drop i old, k.within, k.short)
-
-  pub copy_on : i < n → Copying text old n (set new i (get_or text i 0)) (i + 1)
-  copy_on l =
-      record {
-        within = omega arith;
-        short = k.short;
-        so_far =
-            rw add-one
-            (ap (λ (t : List ℕ). set t i (get_or text i 0)) (k.so_far ∙ ap (λ (t : List ℕ). take i text ++ t) (drop-cons old i 0 (omega (arith, k.short))))
-            ∙ set_at (take i text) (get_or old i 0) (drop (suc i) old) (get_or text i 0) i (omega (arith, length-take i text, k.short))
-            ∙ sym (append_snoc (take i text) (get_or text i 0) (drop (suc i) old))
-            ∙ ap (λ (t : List ℕ). t ++ drop (suc i) old) (sym (take-suc text i 0 (omega (arith, k.short)))));
-      }
-
-  pub copy_all : n ≤ i → Wrote text old n new
-  copy_all l = record { counted = k.short; holds = k.so_far ∙ ap (λ (j : ℕ). take j text ++ drop j old) here ∙ split (leb (length text) (length old)) (λ e. fits (leb-true _ _ e)) (λ e. cuts (leb-false _ _ e)) }
-    where
-      here : i ≡ n
-      here = omega (arith, k.within)
-
-      fits : length text ≤ length old → take n text ++ drop n old ≡ cut text old
-      fits h =
-          let e : n ≡ length text = omega (arith, k.short) in
-          ap₂ ◌++◌ (take_all n text (omega arith) ∙ sym (take_all (length old) text h)) (ap (λ (j : ℕ). drop j old) e)
-
-      cuts : length old < length text → take n text ++ drop n old ≡ cut text old
-      cuts h =
-          let e : n ≡ length old = omega (arith, k.short) in
-          ap₂ ◌++◌ (ap (λ (j : ℕ). take j text) e)
-          (drop_of_length-le old (let m : length old ≤ n = omega arith in m) ∙ sym (drop_of_length-le old (let m : length old ≤ length text = omega arith in m)))
-
--- a single byte
-pub wrote_none : (b : ℕ) (old : List ℕ) → length old ≡ 0 → Wrote (b ∷ []) old 0 old
-wrote_none b [] e = record { counted = refl; holds = refl }
-wrote_none b (x ∷ old) e = absurd (omega arith)
-
-pub wrote_one : (b : ℕ) (old : List ℕ) → (length old ≡ 0 → ⊥) → Wrote (b ∷ []) old 1 (set old 0 b)
-wrote_one b [] e = absurd (e refl)
-wrote_one b (x ∷ old) e = record { counted = omega arith; holds = ap (λ (t : List ℕ). b ∷ t ++ old) (sym (take-nil (length old))) }
 
 -- an equal text
 pub wrote_is : {text text' old new : List ℕ} {count : ℕ} → Wrote text old count new → text ≡ text' → Wrote text' old count new

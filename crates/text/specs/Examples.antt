@@ -1,5 +1,5 @@
--- Worked examples, computed: document 01's example in both directions, and bad inputs with their lines.
-use Rattle.std.specs.Prelude.{◌≡◌, refl, Bool, List, [], ◌∷◌, ◌++◌, ℕ, ◌<◌, ◌≤◌, T, eqb, length, replicate}
+-- Worked examples, computed: one input read and its output written, and bad inputs with their lines.
+use Rattle.std.specs.Prelude.{◌≡◌, refl, Bool, List, [], ◌∷◌, ◌++◌, ℕ, ◌<◌, ◌≤◌, T, eqb, length, replicate, Result, Ok, Err}
 use Rattle.std.specs.Int.Count.{ones_in}
 use Rattle.std.proofs.Common.{lt-ltb, le-ltb}
 use Rattle.defs.specs.Basics.{every}
@@ -8,11 +8,12 @@ use Rattle.defs.specs.Cases.{A, B, ip, gone}
 use Rattle.defs.specs.Outcome.{answer}
 use Rattle.defs.specs.declared.Operation.TheVariants.{CoveringUnion}
 use Rattle.text.specs.declared.Call.TheVariants.{Listing, Equality}
-use Rattle.text.specs.declared.Request.{Request}
-use Rattle.text.specs.declared.Request.TheVariants.{Good, Bad}
+use Rattle.text.specs.declared.Said.{Said}
+use Rattle.text.specs.declared.BadInput.{BadInput}
+use Rattle.text.specs.declared.BadInput.TheVariants.{TooLong, Line}
 use Rattle.text.specs.Bytes.{bytes, skip}
 use Rattle.text.specs.Numbers.{places_of, hex_text}
-use Rattle.text.specs.Input.{top_of, after_head, room_of, read_outcome}
+use Rattle.text.specs.Input.{line_number, top_of, after_head, room_of, read_outcome}
 use Rattle.text.specs.Output.{output_of}
 
 -- the top of an input: width 32, covering-union, both roots 0/0
@@ -27,7 +28,7 @@ nodes = bytes "l\t00000001\t00000002\nl\t00100200\t00000000\nr\t00000004\t000000
 pub example_read :
     read_outcome (head ++ nodes) (replicate 10 7) (replicate 9 7)
     ≡ record {
-      request = Good (record { head = record { width = 32; call = Listing CoveringUnion; left = top; right = top }; left = 8; right = 8 });
+      request = Ok (record { head = record { width = 32; call = Listing CoveringUnion; left = top; right = top }; left = 8; right = 8 });
       left = A ++ 7 ∷ 7 ∷ [];
       right = B ++ 7 ∷ [];
     }
@@ -70,9 +71,9 @@ abbrev pub ◌is_bad_at◌ : List ℕ → ℕ → Faulty
 s is_bad_at n = record { input = s; line = n }
 
 -- the request is this bad line
-abbrev pub bad : Request → ℕ → Bool
-bad (Good s) n = eqb 0 1
-bad (Bad m) n = eqb m n
+abbrev pub bad : Result Said BadInput → ℕ → Bool
+bad (Ok s) n = eqb 0 1
+bad (Err e) n = eqb (line_number e) n
 
 -- bad inputs, each for one rule
 abbrev pub faulty : List Faulty
@@ -117,7 +118,7 @@ faulty_lines = tt
 
 -- a further node line is bad at its own number, here with room for one node a side; the buffers hold what was good
 pub too_many_nodes :
-    read_outcome (head ++ nodes) (replicate 4 7) (replicate 4 7) ≡ record { request = Bad 6; left = 1 ∷ 2 ∷ 1 ∷ 0 ∷ []; right = replicate 4 7 }
+    read_outcome (head ++ nodes) (replicate 4 7) (replicate 4 7) ≡ record { request = Err (Line 6); left = 1 ∷ 2 ∷ 1 ∷ 0 ∷ []; right = replicate 4 7 }
 unfolding ones_in
 too_many_nodes = refl
 
@@ -126,7 +127,7 @@ pub most_nodes : (room_of (replicate 4095 7) ≡ 1023) × (room_of (replicate 40
 most_nodes = (refl, refl, refl)
 
 -- 65,537 bytes and more are line 0, whatever they are; up to 65,536 bytes the lines are looked at
-pub too_long : (s l r : List ℕ) → 65536 < length s → read_outcome s l r ≡ record { request = Bad 0; left = l; right = r }
+pub too_long : (s l r : List ℕ) → 65536 < length s → read_outcome s l r ≡ record { request = Err TooLong; left = l; right = r }
 too_long s l r h = rw (lt-ltb 65536 (length s) h)
 
 pub not_too_long : (s l r : List ℕ) → length s ≤ 65536 → read_outcome s l r ≡ after_head (top_of s) (skip 4 s) l r

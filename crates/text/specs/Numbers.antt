@@ -1,51 +1,44 @@
 -- Numbers as digits: how they are read and how they are written.
-use Rattle.std.specs.Prelude.{Bool, ◌&&◌, ◌||◌, List, [], ◌∷◌, ◌++◌, ℕ, zero, suc, ◌+◌, ◌-◌, ◌*◌, ◌/◌, ◌%◌, ◌<◌, ltb, leb, eqb, length}
+use Rattle.std.specs.Prelude.{Bool, ◌&&◌, ◌||◌, List, [], ◌∷◌, ◌++◌, ℕ, zero, suc, ◌+◌, ◌-◌, ◌*◌, ◌/◌, ◌%◌, ltb, leb, eqb, length, Option, Some, None}
 use Prim.Native.Char.{code}
 use Rattle.defs.specs.Basics.{if◌then◌otherwise◌}
-use Rattle.text.specs.declared.Number.{Number}
-use Rattle.text.specs.declared.Number.TheVariants.{Is, Not}
 use Rattle.text.specs.Bytes.{is_at}
 
 -- the value of the digits 0 to 9 and a to f
-abbrev pub digit_of : ℕ → Number
-digit_of c = if leb (code "0") c && leb c (code "9") then Is (c - code "0") otherwise if leb (code "a") c && leb c (code "f") then Is (c - code "a" + 10) otherwise Not
+abbrev pub digit_of : ℕ → Option ℕ
+digit_of c = if leb (code "0") c && leb c (code "9") then Some (c - code "0") otherwise if leb (code "a") c && leb c (code "f") then Some (c - code "a" + 10) otherwise None
 
 -- the number n with a digit behind it, where the digit is one of the base
-abbrev pub behind : ℕ → ℕ → Number → Number
-behind base n (Is d) = if ltb d base then Is (n * base + d) otherwise Not
-behind base n Not = Not
+abbrev pub behind : ℕ → ℕ → Option ℕ → Option ℕ
+behind base n (Some d) = if ltb d base then Some (n * base + d) otherwise None
+behind base n None = None
 
 -- a number, and what f gives for it
-abbrev pub and_then : Number → (ℕ → Number) → Number
-and_then (Is n) f = f n
-and_then Not f = Not
+abbrev pub and_then : Option ℕ → (ℕ → Option ℕ) → Option ℕ
+and_then (Some n) f = f n
+and_then None f = None
 
 -- the number n with these digits behind it
-abbrev pub numeral_of : ℕ → ℕ → List ℕ → Number
-numeral_of base n [] = Is n
+abbrev pub numeral_of : ℕ → ℕ → List ℕ → Option ℕ
+numeral_of base n [] = Some n
 numeral_of base n (c ∷ cs) = and_then (behind base n (digit_of c)) (λ m. numeral_of base m cs)
 
 -- a number that is no larger than most
-abbrev pub at_most : ℕ → Number → Number
-at_most most (Is n) = if leb n most then Is n otherwise Not
-at_most most Not = Not
+abbrev pub at_most : ℕ → Option ℕ → Option ℕ
+at_most most (Some n) = if leb n most then Some n otherwise None
+at_most most None = None
 
 -- a digit stands behind a first 0
 abbrev pub leading_zero : List ℕ → Bool
 leading_zero s = is_at 0 (code "0") s && ltb 1 (length s)
 
--- a number, if it is one, is below a limit
-abbrev pub Below : ℕ → Number → Type 0
-Below limit (Is n) = n < limit
-Below limit Not = Unit {0}
-
 -- a decimal number without leading zeros, at most 255
-abbrev pub decimal_of : List ℕ → Number
-decimal_of s = if eqb (length s) 0 || leading_zero s then Not otherwise at_most 255 (numeral_of 10 0 s)
+abbrev pub decimal_of : List ℕ → Option ℕ
+decimal_of s = if eqb (length s) 0 || leading_zero s then None otherwise at_most 255 (numeral_of 10 0 s)
 
 -- so many lowercase hex digits
-abbrev pub hex_of : ℕ → List ℕ → Number
-hex_of count s = if eqb (length s) count then numeral_of 16 0 s otherwise Not
+abbrev pub hex_of : ℕ → List ℕ → Option ℕ
+hex_of count s = if eqb (length s) count then numeral_of 16 0 s otherwise None
 
 -- a digit below 16 as a byte
 abbrev pub glyph_of : ℕ → ℕ

@@ -1,4 +1,4 @@
--- The lines that are written: document 01, "The text program".
+-- The lines that are written.
 use Rattle.std.specs.Prelude.{List, [], ◌∷◌, ◌++◌, ◌≡◌, ℕ, zero, suc, ◌/◌, min, eqb, length, get_or, take, drop}
 use Prim.Native.Char.{code}
 use Rattle.defs.specs.Basics.{if◌then◌otherwise◌}

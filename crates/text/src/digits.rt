@@ -1,116 +1,77 @@
 // Numbers as digits: reading and spelling them.
 ghost use Rattle.std.specs.Prelude.{◌≡◌, ◌+◌, ◌*◌, ◌<◌, ◌≤◌, length, take};
-ghost use Rattle.text.specs.Bytes.{is_at};
-ghost use Rattle.text.specs.Numbers.{digit_of, behind, numeral_of, at_most, leading_zero, decimal_of, hex_of, glyph_of, digits, places_of};
-
-use crate::Number;
-
-// Whether byte b stands at place i.
-pub(crate) fn is_at(s: &[u8], i: usize, b: u8) -> bool
-    ensures { result ≡ is_at i b s.now }
-{
-    if i < s.len() { s[i] == b } else { false }
-}
+ghost use Rattle.text.specs.Numbers.{digit_of, behind, numeral_of, at_most, decimal_of, hex_of, glyph_of, digits, places_of};
 
 // The value of a digit 0 to 9 or a to f.
-fn digit(c: u8) -> Number
+fn digit(c: u8) -> Option<u64>
     ensures { result ≡ digit_of c }
 {
-    if c < b'0' {
-        return Number::Not;
+    match c {
+        b'0'..=b'9' => Some((c - b'0') as u64),
+        b'a'..=b'f' => Some((c - b'a' + 10) as u64),
+        _ => None,
     }
-    if c <= b'9' {
-        return Number::Is((c - b'0') as u64);
-    }
-    if c < b'a' {
-        return Number::Not;
-    }
-    if c <= b'f' {
-        return Number::Is((c - b'a' + 10) as u64);
-    }
-    Number::Not
 }
 
-// n * base + d, tested against `most` before anything could wrap.
-fn shifted(n: u64, d: u64, base: u64, most: u64) -> Number
-    requires { 0 < base }
-    ensures { result ≡ at_most most (Number.Is (n * base + d)) }
+// n * base + d, where it is no larger than `most`.
+fn shifted(n: u64, d: u64, base: u64, most: u64) -> Option<u64>
+    ensures { result ≡ at_most most (Some (n * base + d)) }
 {
-    if most < d {
-        return Number::Not;
-    }
-    if (most - d) / base < n {
-        return Number::Not;
-    }
-    Number::Is(n * base + d)
+    let m = n.checked_mul(base)?.checked_add(d)?;
+    if m <= most { Some(m) } else { None }
 }
 
 // The number n with one more digit behind it.
-fn more(n: u64, c: u8, base: u64, most: u64) -> Number
-    requires { 0 < base }
+fn more(n: u64, c: u8, base: u64, most: u64) -> Option<u64>
     ensures { result ≡ at_most most (behind base n (digit_of c)) }
 {
-    let Number::Is(d) = digit(c) else {
-        return Number::Not;
-    };
+    let d = digit(c)?;
     if d < base {
         shifted(n, d, base, most)
     } else {
-        Number::Not
+        None
     }
 }
 
 // The number that the digits make, where it is no larger than `most`.
-fn numeral(s: &[u8], base: u64, most: u64) -> Number
+fn numeral(s: &[u8], base: u64, most: u64) -> Option<u64>
     requires { 0 < base }
     ensures { result ≡ at_most most (numeral_of base 0 s.now) }
 {
-    let mut n: u64 = 0;
-    let mut i = 0;
-    while i < s.len() {
-        let Number::Is(m) = more(n, s[i], base, most) else {
-            return Number::Not;
-        };
-        n = m;
-        i += 1;
+    let mut n = 0;
+    for c in s {
+        n = more(n, *c, base, most)?;
     }
-    Number::Is(n)
-}
-
-// Whether a digit stands behind a first 0.
-fn leading_zero(s: &[u8]) -> bool
-    ensures { result ≡ leading_zero s.now }
-{
-    if is_at(s, 0, b'0') {
-        1 < s.len()
-    } else {
-        false
-    }
+    Some(n)
 }
 
 // A decimal number without leading zeros, at most 255.
-pub(crate) fn decimal(s: &[u8]) -> Number
+pub(crate) fn decimal(s: &[u8]) -> Option<u32>
     ensures { result ≡ decimal_of s.now }
 {
-    if s.len() == 0 {
-        return Number::Not;
+    match s {
+        [] | [b'0', _, ..] => None,
+        _ => Some(numeral(s, 10, 255)? as u32),
     }
-    if leading_zero(s) {
-        return Number::Not;
-    }
-    numeral(s, 10, 255)
 }
 
 // So many lowercase hex digits, at most 16, whose number fits 64 bits.
-pub(crate) fn hex(s: &[u8], count: usize) -> Number
+pub(crate) fn hex(s: &[u8], count: usize) -> Option<u64>
     requires { count ≤ 16 }
     ensures { result ≡ hex_of count s.now }
 {
     if s.len() == count {
-        numeral(s, 16, 18446744073709551615)
+        numeral(s, 16, u64::MAX)
     } else {
-        Number::Not
+        None
     }
+}
+
+// A word of 8 lowercase hex digits.
+pub(crate) fn bitmap(s: &[u8]) -> Option<u32>
+    ensures { result ≡ hex_of 8 s.now }
+{
+    Some(hex(s, 8)? as u32)
 }
 
 // A digit below 16 as a byte.
@@ -129,13 +90,10 @@ fn glyph(d: u64) -> u8
 pub(crate) fn places(n: u64) -> usize
     ensures { (result ≡ places_of n) × (result ≤ 20) }
 {
-    let mut k = 1;
-    let mut left = n;
-    while 10 <= left {
-        left /= 10;
-        k += 1;
+    match n.checked_ilog10() {
+        Some(k) => k as usize + 1,
+        None => 1,
     }
-    k
 }
 
 // Puts the last k digits of n at the front of a buffer, the last one first.
@@ -143,10 +101,8 @@ pub(crate) fn spell(n: u64, base: u64, k: usize, out: &mut [u8])
     requires { (0 < base) × (base ≤ 16) × (k ≤ length out.old) }
     ensures { take k out.new ≡ digits base k n }
 {
-    let mut i = k;
     let mut left = n;
-    while 0 < i {
-        i -= 1;
+    for i in (0..k).rev() {
         out[i] = glyph(left % base);
         left /= base;
     }

@@ -1,19 +1,15 @@
 // Reading and writing of the text program, on slices. What is right is said in specs/.
 #![tactic(auto)]
 
+ghost use Rattle.std.specs.Prelude.{◌≡◌};
+ghost use Rattle.text.specs.Input.{line_number};
+
 mod digits;
 pub mod input;
 mod lines;
 pub mod output;
 
 use defs::{Operation, Prefix};
-
-// A number that was read.
-#[derive(Clone, Copy)]
-pub enum Number {
-    Is(u64),
-    Not,
-}
 
 // What line O asks for: one of the five lists, or key equality.
 #[derive(Clone, Copy)]
@@ -22,25 +18,11 @@ pub enum Call {
     Equality,
 }
 
-// Line O.
-#[derive(Clone, Copy)]
-pub enum Asked {
-    Is(Call),
-    Not,
-}
-
-// Line L or R.
-#[derive(Clone, Copy)]
-pub enum Root {
-    Is(Prefix),
-    Not,
-}
-
 // Line l or r: the data bitmap and the child bitmap.
 #[derive(Clone, Copy)]
-pub enum Node {
-    Is(u32, u32),
-    Not,
+pub struct Node {
+    pub data_bits: u32,
+    pub child_bits: u32,
 }
 
 // The four lines at the top: width, operation and the two roots.
@@ -52,21 +34,15 @@ pub struct Head {
     pub right: Prefix,
 }
 
-// The four lines at the top, or the number of the first bad one.
+// The node lines of one side: how many words they make, a number as in `Said`, and what follows them.
 #[derive(Clone, Copy)]
-pub enum Top {
-    Good(Head),
-    Bad(u64),
-}
-
-// The node lines of one side: how many words they make, and where the next line starts.
-#[derive(Clone, Copy)]
-pub struct Part {
+pub struct Part<'a> {
     pub words: usize,
-    pub next: usize,
+    pub rest: &'a [u8],
 }
 
 // What a good input says: its top, and how many words of the lent buffers are the left and the right pool.
+// Numbers and no slices: `read` says what both whole buffers hold afterwards, and a buffer that its result borrows has no such clause.
 #[derive(Clone, Copy)]
 pub struct Said {
     pub head: Head,
@@ -74,9 +50,21 @@ pub struct Said {
     pub right: usize,
 }
 
-// What a good input says, or the number of the first bad or missing line; 0 where the input is too long.
-#[derive(Clone, Copy)]
-pub enum Request {
-    Good(Said),
-    Bad(u64),
+// Why an input is refused: it is too long, or a line, counted from 1, is bad or missing.
+#[derive(Clone, Copy, Debug, PartialEq, Eq)]
+pub enum BadInput {
+    TooLong,
+    Line(u64),
+}
+
+impl BadInput {
+    // The number that the E line shows.
+    pub fn line_number(self) -> u64
+        ensures { result ≡ line_number self }
+    {
+        match self {
+            BadInput::TooLong => 0,
+            BadInput::Line(k) => k,
+        }
+    }
 }

@@ -1,63 +1,46 @@
 // Writing lines into a lent buffer. A text that does not fit is cut where the buffer ends.
-ghost use Rattle.std.specs.Prelude.{◌≡◌, [], ◌∷◌, ◌+◌, ◌≤◌, ◌/◌, min, length};
+ghost use Rattle.std.specs.Prelude.{◌≡◌, ◌∷◌, ◌<◌, ◌≤◌, ◌/◌, length};
 ghost use Rattle.defs.specs.Lists.{record_words};
-ghost use Rattle.text.specs.Numbers.{hex_text};
+ghost use Rattle.text.specs.Bytes.{tab};
+ghost use Rattle.text.specs.Numbers.{digits, hex_text};
 ghost use Rattle.text.specs.Output.{letter_of, number_field, mark_field, prefix_text, values_text, record_line, record_lines, end_line, shown_of, output_of, Wrote};
 
 use crate::Call;
 use crate::digits::{places, spell};
 use defs::{Answer, missing_cover, missing_value, record_words};
 
-// The lesser of two numbers.
-fn lesser(a: usize, b: usize) -> usize
-    ensures { result ≡ min a b }
-{
-    if a < b { a } else { b }
-}
-
 // Copies as much of a text as there is room for, and answers how much that is.
 fn put(text: &[u8], out: &mut [u8]) -> usize
     ensures { Wrote text.now out.old result out.new }
 {
-    let n = lesser(text.len(), out.len());
-    let mut i = 0;
-    while i < n {
-        out[i] = text[i];
-        i += 1;
-    }
+    let n = text.len().min(out.len());
+    out[..n].copy_from_slice(&text[..n]);
     n
 }
 
-// Writes one byte.
-fn put_byte(b: u8, out: &mut [u8]) -> usize
-    ensures { Wrote (b ∷ []) out.old result out.new }
+// Writes a tab and the last k digits of a number.
+fn put_digits(n: u64, base: u64, k: usize, out: &mut [u8]) -> usize
+    requires { (0 < base) × (base ≤ 16) × (k ≤ 20) }
+    ensures { Wrote (tab ∷ digits base k n) out.old result out.new }
 {
-    if out.len() == 0 {
-        return 0;
-    }
-    out[0] = b;
-    1
+    let mut text = [0; 20];
+    spell(n, base, k, &mut text);
+    let at = put(b"\t", out);
+    at + put(&text[..k], &mut out[at..])
 }
 
 // Writes a tab and a number in decimal.
 fn put_number(n: u64, out: &mut [u8]) -> usize
     ensures { Wrote (number_field n) out.old result out.new }
 {
-    let mut text = [0u8; 20];
-    let k = places(n);
-    spell(n, 10, k, &mut text);
-    let at = put_byte(b'\t', out);
-    at + put(&text[..k], &mut out[at..])
+    put_digits(n, 10, places(n), out)
 }
 
 // Writes a tab and a key.
 fn put_key(n: u64, out: &mut [u8]) -> usize
-    ensures { Wrote (9 ∷ hex_text n) out.old result out.new }
+    ensures { Wrote (tab ∷ hex_text n) out.old result out.new }
 {
-    let mut text = [0u8; 20];
-    spell(n, 16, 16, &mut text);
-    let at = put_byte(b'\t', out);
-    at + put(&text[..16], &mut out[at..])
+    put_digits(n, 16, 16, out)
 }
 
 // Writes a tab and a number, or - where it is the mark of a missing one.
@@ -70,7 +53,7 @@ fn put_mark(mark: u64, n: u64, out: &mut [u8]) -> usize
     put_number(n, out)
 }
 
-// The letter of a tag.
+// The letter of a tag. A tag is a word of the records, which C reads as a number, and so no enum.
 fn letter(tag: u64) -> u8
     ensures { result ≡ letter_of tag }
 {
@@ -85,7 +68,7 @@ fn letter(tag: u64) -> u8
 fn put_prefix(key: u64, len: u64, tag: u64, out: &mut [u8]) -> usize
     ensures { Wrote (prefix_text key len tag) out.old result out.new }
 {
-    let a = put_byte(letter(tag), out);
+    let a = put(&[letter(tag)], out);
     let b = a + put_key(key, &mut out[a..]);
     b + put_number(len, &mut out[b..])
 }
@@ -99,7 +82,7 @@ fn put_values(left: u64, right: u64, cover: u64, out: &mut [u8]) -> usize
     let a = put_mark(no_value, left, out);
     let b = a + put_mark(no_value, right, &mut out[a..]);
     let c = b + put_mark(no_cover, cover, &mut out[b..]);
-    c + put_byte(b'\n', &mut out[c..])
+    c + put(b"\n", &mut out[c..])
 }
 
 // Writes the line of the record in the first six words.
@@ -116,14 +99,9 @@ fn put_records(w: &[u64], k: usize, out: &mut [u8]) -> usize
     requires { k ≤ length w.now / record_words }
     ensures { Wrote (record_lines k w.now) out.old result out.new }
 {
-    let size = record_words();
     let mut at = 0;
-    let mut from = 0;
-    let mut left = k;
-    while 0 < left {
-        at += put_record(&w[from..], &mut out[at..]);
-        from += size;
-        left -= 1;
+    for record in w.chunks_exact(record_words()).take(k) {
+        at += put_record(record, &mut out[at..]);
     }
     at
 }
@@ -132,23 +110,22 @@ fn put_records(w: &[u64], k: usize, out: &mut [u8]) -> usize
 fn put_end(number: u32, beside: u64, out: &mut [u8]) -> usize
     ensures { Wrote (end_line number beside) out.old result out.new }
 {
-    let a = put_byte(b'E', out);
+    let a = put(b"E", out);
     let b = a + put_number(number as u64, &mut out[a..]);
     let c = b + put_number(beside, &mut out[b..]);
-    c + put_byte(b'\n', &mut out[c..])
+    c + put(b"\n", &mut out[c..])
 }
 
 // How many records are shown: those of a list that is done; equality and refusals show none.
 fn shown(call: Call, answer: Answer, w: &[u64]) -> usize
     ensures { result ≡ shown_of call answer w.now }
 {
-    let Call::Listing(_) = call else {
-        return 0;
-    };
-    if answer.number != 0 {
-        return 0;
+    match call {
+        Call::Listing(_) if answer.number == 0 => {
+            (w.len() / record_words()).min(answer.beside as usize)
+        }
+        _ => 0,
     }
-    lesser(answer.beside as usize, w.len() / record_words())
 }
 
 // Writes the whole output and answers how many bytes it has in the buffer; what does not fit is left out.

@@ -1,6 +1,6 @@
 -- Aligning the right view with the left root: on the way down to it nothing is listed, and where the right side covers the way nothing is
 -- listed at all.
-use Rattle.std.specs.Prelude.{◌≡◌, true, [], ℕ, suc, ◌+◌, ◌*◌, ◌-◌, ◌/◌, ◌≤◌, ◌<◌}
+use Rattle.std.specs.Prelude.{◌≡◌, true, [], ℕ, suc, ◌+◌, ◌*◌, ◌-◌, ◌/◌, ◌≤◌, ◌<◌, None}
 use Rattle.std.proofs.Common.{◌∙◌, arith}
 use Rattle.std.proofs.Math.Bool.{and-false}
 use Rattle.defs.specs.declared.Prefix.{Prefix}
@@ -9,8 +9,6 @@ use Rattle.defs.specs.Prefix.{leads, deeper}
 use Rattle.defs.specs.Entries.{data_place, child_place}
 use Rattle.defs.specs.PrefixLaws.{Whole}
 use Rattle.defs.proofs.DeeperLaws.{whole_deeper}
-use Rattle.theory.specs.declared.Node.{Node}
-use Rattle.theory.specs.declared.Cover.TheVariants.{Nothing}
 use Rattle.theory.specs.declared.Level.{Level}
 use Rattle.theory.specs.Sides.{child_in, side_data, side_child}
 use Rattle.theory.specs.Down.{only_child, short, no_data, no_child}
@@ -19,6 +17,7 @@ use Rattle.theory.specs.StepLaws.{Free}
 use Rattle.theory.specs.Unwanted.{left_list, left_empty, unwanted}
 use Rattle.theory.specs.Walk.{enter_rest, child_rest}
 use Rattle.theory.specs.Start.{first, start_ok}
+use Rattle.theory.specs.Kinds.{Node}
 
 module _ (j : Steps.Job) (is-left : left_list j.op ≡ true) (p : Prefix) (w : Whole p) (e : p.len + 5 * suc ((60 - p.len) / 5) ≡ 65) (a b : Node)
     (c : ℕ) (child : c < 32) (fits : j.left.root.len ≤ 64) (h : leads (deeper p 5 c) j.left.root ≡ true) where
@@ -49,11 +48,11 @@ module _ (j : Steps.Job) (is-left : left_list j.op ≡ true) (p : Prefix) (w : W
   one_child = enter_rest j p a b Steps.no_covers w e tt tt ∙ only_child (Steps.place_list j f) no_left_data c no_left_child child
 
   -- where the right side covers that child there is nothing to list
-  pub align_covered : j.op ≡ CoveringDifference → Steps.is_cover (Steps.cover_bits j.right b p Nothing 5 c) ≡ true → Steps.level_rest j f ≡ []
+  pub align_covered : j.op ≡ CoveringDifference → Steps.is_cover (Steps.cover_bits j.right b p None 5 c) ≡ true → Steps.level_rest j f ≡ []
   align_covered o k = one_child ∙ unwanted j lv p w e a b Steps.no_covers tt tt (child_place c) child (rw (o, k) (and-false (Steps.marked j.left.pool a (child_place c))))
 
   -- and otherwise all lies below it
-  pub align_down_lem : Free j.op (Steps.is_cover (Steps.cover_bits j.right b p Nothing 5 c))
+  pub align_down_lem : Free j.op (Steps.is_cover (Steps.cover_bits j.right b p None 5 c))
       → Steps.level_rest j f
       ≡ Steps.level_rest j (Steps.enter j q (child_in j.left.pool j.left.root a c q) (child_in j.right.pool j.right.root b c q) (Steps.carried j.op (Steps.covers_at j f 5 c)))
   align_down_lem k = one_child ∙ child_rest j f (start_ok j p w e a b) c deep k

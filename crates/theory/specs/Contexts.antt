@@ -1,5 +1,5 @@
 -- Entries above a node: only their length and value matter, and to the lists without covers not even these.
-use Rattle.std.specs.Prelude.{◌≡◌, refl, true, false, List, [], ◌∷◌, ◌++◌, map, ℕ, ◌≤◌, ◌<◌}
+use Rattle.std.specs.Prelude.{◌≡◌, refl, true, false, List, [], ◌∷◌, ◌++◌, map, ℕ, ◌≤◌, ◌<◌, None, Some}
 use Rattle.std.proofs.Common.{sym, ◌∙◌, ap, arith, ne_eqb}
 use Rattle.std.proofs.Math.Option.{Option, none, some}
 use Rattle.defs.specs.declared.Prefix.{Prefix}
@@ -12,24 +12,23 @@ use Rattle.defs.specs.Lists.{Record, all_of, is_in, is_led, longest}
 use Rattle.defs.specs.Lemmas.{All, split, not_both, all_imp, all_both, each_on}
 use Rattle.defs.specs.PrefixLaws.{Whole}
 use Rattle.defs.proofs.OrderLaws.{all_merge}
-use Rattle.theory.specs.declared.Cover.{Cover}
-use Rattle.theory.specs.declared.Cover.TheVariants.{Nothing, Of}
 use Rattle.theory.specs.Covering.{own, record_at, covering}
 use Rattle.theory.specs.Picks.{Good, pick, picks, own_in, in_own, led_in, whole_of}
+use Rattle.theory.specs.Kinds.{a_cover, Cover}
 
 -- an entry above as far as it matters
 abbrev pub cover_for : Option Entry → Cover
-cover_for none = Nothing
-cover_for (some e) = Of e.at.len e.value
+cover_for none = None
+cover_for (some e) = a_cover e.at.len e.value
 
 -- an entry with a cover's length and value
 abbrev pub entry_for : Cover → Option Entry
-entry_for Nothing = none
-entry_for (Of n v) = some (record { at = record { key = 0; len = n }; value = v })
+entry_for None = none
+entry_for (Some a) = some (record { at = record { key = 0; len = a.len }; value = a.value })
 
 pub cover_entry : (c : Cover) → cover_for (entry_for c) ≡ c
-cover_entry Nothing = refl
-cover_entry (Of n v) = refl
+cover_entry None = refl
+cover_entry (Some a) = refl
 
 -- an entry above is shorter than n
 abbrev pub Shorter : Option Entry → ℕ → Type 0
@@ -65,14 +64,23 @@ StandsRight Intersection c d = d ≡ none
 StandsRight Difference c d = d ≡ none
 StandsRight CoveringDifference c d = c ≡ d
 
+-- the length and the value in a cover
+abbrev len_in : Cover → ℕ
+len_in None = 0
+len_in (Some a) = a.len
+
+abbrev value_in : Cover → ℕ
+value_in None = 0
+value_in (Some a) = a.value
+
 -- a record hangs on the length and value of an entry above alone
 same_left : (p : Prefix) (c d u : Option Entry) → cover_for c ≡ cover_for d → own p c ≡ false → own p d ≡ false → record_at p c u ≡ record_at p d u
 same_left p none none u e i j = refl
 same_left p none (some d) u e i j = let z : ◌≡◌ {A = ℕ} 0 1 = cc in absurd (omega arith)
 same_left p (some c) none u e i j = let z : ◌≡◌ {A = ℕ} 0 1 = cc in absurd (omega arith)
 same_left p (some c) (some d) u e i j =
-    let l : c.at.len ≡ d.at.len = cc in
-    let v : c.value ≡ d.value = cc in
+    let l : c.at.len ≡ d.at.len = ap len_in e in
+    let v : c.value ≡ d.value = ap value_in e in
     rw (i, j, l, v)
 
 same_right : (p : Prefix) (o c d : Option Entry) → cover_for c ≡ cover_for d → own p c ≡ false → own p d ≡ false → record_at p o c ≡ record_at p o d
@@ -80,8 +88,8 @@ same_right p o none none e i j = refl
 same_right p o none (some d) e i j = let z : ◌≡◌ {A = ℕ} 0 1 = cc in absurd (omega arith)
 same_right p o (some c) none e i j = let z : ◌≡◌ {A = ℕ} 0 1 = cc in absurd (omega arith)
 same_right p o (some c) (some d) e i j =
-    let l : c.at.len ≡ d.at.len = cc in
-    let v : c.value ≡ d.value = cc in
+    let l : c.at.len ≡ d.at.len = ap len_in e in
+    let v : c.value ≡ d.value = ap value_in e in
     split (own p o) (λ k. rw (i, j, k, l, v)) (λ k. rw (i, j, k, v))
 
 -- of a record that is the other side's own, a list takes the same whatever stands above

@@ -1,5 +1,5 @@
 -- Going down: where a child's prefix leads the root, the view lies in that child alone.
-use Rattle.std.specs.Prelude.{◌≡◌, true, false, List, [], ◌++◌, ℕ, zero, suc, ◌+◌, ◌*◌, ◌-◌, ◌/◌, ◌%◌, ◌^◌, ◌≤◌, ◌<◌, eqb}
+use Rattle.std.specs.Prelude.{◌≡◌, true, false, List, [], ◌++◌, ℕ, zero, suc, ◌+◌, ◌*◌, ◌-◌, ◌/◌, ◌%◌, ◌^◌, ◌≤◌, ◌<◌, eqb, None, Some}
 use Rattle.std.proofs.Math.Path.{refl}
 use Rattle.std.proofs.Common.{sym, ◌∙◌, ap, append-nil, div-add-mod', mod-lt, div-one, shr-shr, eqb-true, eq-eqb, ne_eqb}
 use Rattle.std.proofs.Math.Bool.{and-false}
@@ -14,10 +14,8 @@ use Rattle.defs.specs.Lemmas.{split, is_false, each_append}
 use Rattle.defs.specs.PrefixLaws.{Whole}
 use Rattle.defs.proofs.PrefixLaws.{leads_of, leads_len, leads_first, leads_trans, leads_same, shorter}
 use Rattle.defs.proofs.DeeperLaws.{deeper_first, deeper_same, whole_deeper}
-use Rattle.theory.specs.declared.Node.{Node}
-use Rattle.theory.specs.declared.Node.TheVariants.{Absent, At}
-use Rattle.theory.specs.declared.Value.TheVariants.{Missing}
 use Rattle.theory.specs.Sides.{side_held, side_entries, on_path, child_in, value_in, side_places, side_data, side_child}
+use Rattle.theory.specs.Kinds.{Node}
 
 -- the next n bits of a key, after the first d
 abbrev pub next_bits : ℕ → ℕ → ℕ → ℕ
@@ -72,15 +70,15 @@ module _ (w : List ℕ) (root : Prefix) (levels : ℕ) (o : Node) (p : Prefix) (
   pub short : p.len + 5 ≤ root.len
   short = leads_len (deeper p 5 c) root h
 
-  pub no_data : (n v : ℕ) → n ≤ 4 → value_in w root o n v (deeper p n v) ≡ Missing
+  pub no_data : (n v : ℕ) → n ≤ 4 → value_in w root o n v (deeper p n v) ≡ None
   no_data n v l = go o
     where
       longer : leads root (deeper p n v) ≡ false
       longer = is_false _ (λ i. omega (arith, leads_len root (deeper p n v) i, short))
 
-      go : (o : Node) → value_in w root o n v (deeper p n v) ≡ Missing
-      go Absent = refl
-      go (At i) = rw (longer, and-false (bit (data_bit n v) (data_of w i)))
+      go : (o : Node) → value_in w root o n v (deeper p n v) ≡ None
+      go None = refl
+      go (Some i) = rw (longer, and-false (bit (data_bit n v) (data_of w i)))
 
   pub no_child : (d : ℕ) → (c ≡ d → ⊥) → side_entries w root levels (child_in w root o d (deeper p 5 d)) (deeper p 5 d) ≡ []
   no_child d n = go o
@@ -97,8 +95,8 @@ module _ (w : List ℕ) (root : Prefix) (levels : ℕ) (o : Node) (p : Prefix) (
           (λ i. rw i (is_false _ (λ j. alike (shorter (deeper p 5 c) (deeper p 5 d) root h j (omega arith)))))
 
       go : (o : Node) → side_entries w root levels (child_in w root o d (deeper p 5 d)) (deeper p 5 d) ≡ []
-      go Absent = refl
-      go (At i) = rw (off_path, and-false (bit d (child_of w i)))
+      go None = refl
+      go (Some i) = rw (off_path, and-false (bit d (child_of w i)))
 
   -- one level down: the view at the root in a node is the view in the child on the way to the root
   pub side_down : c < 32 → side_entries w root (suc levels) o p ≡ side_entries w root levels (child_in w root o c (deeper p 5 c)) (deeper p 5 c)

@@ -1,4 +1,5 @@
 pub mod Covering
+pub mod Kinds
 pub mod Nodes
 pub mod Picks
 pub mod Sides

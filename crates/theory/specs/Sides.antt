@@ -1,5 +1,5 @@
 -- One side of a walk: a pool, a root, and a node or none. What its places hold, and what lies below a child.
-use Rattle.std.specs.Prelude.{◌≡◌, Bool, true, false, ◌&&◌, ◌||◌, List, [], ◌∷◌, ◌++◌, ℕ, suc, ◌+◌, ◌*◌}
+use Rattle.std.specs.Prelude.{◌≡◌, Bool, true, false, ◌&&◌, ◌||◌, List, [], ◌∷◌, ◌++◌, ℕ, suc, ◌+◌, ◌*◌, None, Some}
 use Rattle.std.proofs.Math.Path.{refl}
 use Rattle.std.proofs.Common.{◌∙◌, ap, ⊎_elim, arith}
 use Rattle.defs.specs.declared.Prefix.{Prefix}
@@ -14,20 +14,17 @@ use Rattle.defs.specs.OrderLaws.{end}
 use Rattle.defs.proofs.OrderLaws.{ascends_keep}
 use Rattle.defs.specs.NodeLaws.{Led, Fits}
 use Rattle.defs.proofs.EntryLaws.{sound, held_fits, prefixes_under}
-use Rattle.theory.specs.declared.Node.{Node}
-use Rattle.theory.specs.declared.Node.TheVariants.{Absent, At}
-use Rattle.theory.specs.declared.Value.{Value}
-use Rattle.theory.specs.declared.Value.TheVariants.{Missing, Is}
+use Rattle.theory.specs.Kinds.{Node, Value}
 
 -- what a place of a side's node of prefix p holds of the view at the root, `levels` nodes below
 abbrev pub side_held : List ℕ → Prefix → ℕ → Node → Prefix → Place → List Entry
-side_held w root levels Absent p x = []
-side_held w root levels (At i) p x = under root (held_at w (entries_at w levels) i p x)
+side_held w root levels None p x = []
+side_held w root levels (Some i) p x = under root (held_at w (entries_at w levels) i p x)
 
 -- the entries of the view at the root in a side's node and below it
 abbrev pub side_entries : List ℕ → Prefix → ℕ → Node → Prefix → List Entry
-side_entries w root levels Absent p = []
-side_entries w root levels (At i) p = under root (entries_at w levels i p)
+side_entries w root levels None p = []
+side_entries w root levels (Some i) p = under root (entries_at w levels i p)
 
 -- root and q lie on one path: one leads the other
 abbrev pub on_path : Prefix → Prefix → Bool
@@ -35,19 +32,19 @@ on_path root q = leads root q || leads q root
 
 -- the child of a side's node at place c, of prefix q, where there is one and it lies on one path with the root
 abbrev pub child_in : List ℕ → Prefix → Node → ℕ → Prefix → Node
-child_in w root Absent c q = Absent
-child_in w root (At i) c q = if bit c (child_of w i) && on_path root q then At (first_child w i + rank c (child_of w i)) otherwise Absent
+child_in w root None c q = None
+child_in w root (Some i) c q = if bit c (child_of w i) && on_path root q then Some (first_child w i + rank c (child_of w i)) otherwise None
 
 -- the value at the data place of n bits of value v, of prefix q, where there is one and the root leads it
 abbrev pub value_in : List ℕ → Prefix → Node → ℕ → ℕ → Prefix → Value
-value_in w root Absent n v q = Missing
-value_in w root (At i) n v q =
-    if bit (data_bit n v) (data_of w i) && leads root q then Is (first_value w i + rank (data_bit n v) (data_of w i)) otherwise Missing
+value_in w root None n v q = None
+value_in w root (Some i) n v q =
+    if bit (data_bit n v) (data_of w i) && leads root q then Some (first_value w i + rank (data_bit n v) (data_of w i)) otherwise None
 
 -- the entry of prefix q with a value, or none
 abbrev pub entry_at : Prefix → Value → List Entry
-entry_at q Missing = []
-entry_at q (Is v) = record { at = q; value = v } ∷ []
+entry_at q None = []
+entry_at q (Some v) = record { at = q; value = v } ∷ []
 
 under_each : (root : Prefix) (f : Place → List Entry) (xs : List Place) → under root (each f xs) ≡ each (λ x. under root (f x)) xs
 under_each root f [] = refl
@@ -71,14 +68,14 @@ module _ (w : List ℕ) (root : Prefix) where
   -- a node's entries, place by place
   pub side_places : (levels : ℕ) (o : Node) (p : Prefix) → side_entries w root (suc levels) o p ≡ each (side_held w root levels o p) places
   unfolding places
-  side_places levels Absent p = refl
-  side_places levels (At i) p = under_each root (held_at w (entries_at w levels) i p) places
+  side_places levels None p = refl
+  side_places levels (Some i) p = under_each root (held_at w (entries_at w levels) i p) places
 
   -- what the places of a side's node hold fits them
   pub side_fits : (levels : ℕ) (o : Node) (p : Prefix) → p.len + 5 * suc levels ≡ 65 → Fits p (side_held w root levels o p)
-  side_fits levels Absent p e =
+  side_fits levels None p e =
       record { data_at = λ n v. nil; data_asc = λ n v. end; child_led = λ c u. nil; child_asc = λ c u. end; child_real = λ c u. nil; child_none = λ l c. refl }
-  side_fits levels (At i) p e =
+  side_fits levels (Some i) p e =
       let held = held_at w (entries_at w levels) i p in
       let f : Fits p held = held_fits w levels (sound w levels) i p e in
       record {
@@ -92,8 +89,8 @@ module _ (w : List ℕ) (root : Prefix) where
 
   -- what a data place holds
   pub side_data : (levels : ℕ) (o : Node) (p : Prefix) (n v : ℕ) → side_held w root levels o p (data_place n v) ≡ entry_at (deeper p n v) (value_in w root o n v (deeper p n v))
-  side_data levels Absent p n v = refl
-  side_data levels (At i) p n v =
+  side_data levels None p n v = refl
+  side_data levels (Some i) p n v =
       split (bit (data_bit n v) (data_of w i))
       (λ b. split (leads root (deeper p n v)) (λ l. rw (b, value_in) (rw (l, keep))) (λ l. rw (b, value_in) (rw (l, keep))))
       (λ b. rw (b, value_in))
@@ -101,8 +98,8 @@ module _ (w : List ℕ) (root : Prefix) where
   -- what a child place holds is what the child's node holds
   pub side_child : (levels : ℕ) (o : Node) (p : Prefix) (c : ℕ) → Whole (deeper p 5 c) → p.len + 5 * suc levels ≡ 65
       → side_held w root levels o p (child_place c) ≡ side_entries w root levels (child_in w root o c (deeper p 5 c)) (deeper p 5 c)
-  side_child levels Absent p c u e = refl
-  side_child levels (At i) p c u e =
+  side_child levels None p c u e = refl
+  side_child levels (Some i) p c u e =
       let q = deeper p 5 c in
       let j = first_child w i + rank c (child_of w i) in
       split (bit c (child_of w i))

@@ -8,12 +8,12 @@ use Rattle.defs.specs.declared.Operation.TheVariants.{Union, Intersection, Diffe
 use Rattle.defs.specs.Lists.{records_of}
 use Rattle.defs.specs.Outcome.{entries_of}
 use Rattle.defs.specs.PrefixLaws.{Whole}
-use Rattle.theory.specs.declared.Node.{Node}
 use Rattle.theory.specs.declared.Level.{Level}
 use Rattle.theory.specs.Picks.{view_good, list_picks}
 use Rattle.theory.specs.Sides.{side_entries}
 use Rattle.theory.specs.Steps
 use Rattle.theory.specs.Walk.{LevelOk, by_places, enter_rest, enter_ok}
+use Rattle.theory.specs.Kinds.{Node}
 
 carried_none : (op : Operation) → Steps.carried op Steps.no_covers ≡ Steps.no_covers
 carried_none Union = refl

@@ -1,5 +1,5 @@
 -- What a step means: what a level has to give is what the step gives and what is left after it.
-use Rattle.std.specs.Prelude.{◌≡◌, refl, Bool, true, false, not, List, [], ◌∷◌, ℕ, zero, suc, ◌+◌, ◌/◌, ◌≤◌, ◌<◌}
+use Rattle.std.specs.Prelude.{◌≡◌, refl, Bool, true, false, not, List, [], ◌∷◌, ℕ, zero, suc, ◌+◌, ◌/◌, ◌≤◌, ◌<◌, None, Some}
 use Rattle.std.proofs.Common.{◌∙◌, ap, subst, arith, eq-eqb}
 use Rattle.std.proofs.Math.Option.{Option, none, some}
 use Rattle.std.proofs.lemmas.Bool.{not-true}
@@ -12,43 +12,37 @@ use Rattle.defs.specs.Lists.{Record, put, longest, value_of, cover_of, no_cover}
 use Rattle.defs.specs.Lemmas.{not_both, and_right}
 use Rattle.defs.specs.Outcome.{Side}
 use Rattle.defs.proofs.PrefixLaws.{leads_self, before_irrefl}
-use Rattle.theory.specs.declared.Node.{Node}
-use Rattle.theory.specs.declared.Value.{Value}
-use Rattle.theory.specs.declared.Value.TheVariants.{Missing, Is}
-use Rattle.theory.specs.declared.Cover.{Cover}
-use Rattle.theory.specs.declared.Cover.TheVariants.{Nothing, Of}
 use Rattle.theory.specs.declared.Item.TheVariants.{Left, Right}
-use Rattle.theory.specs.declared.Emit.{Emit}
-use Rattle.theory.specs.declared.Emit.TheVariants as emit
 use Rattle.theory.specs.Covering.{own, covering}
 use Rattle.theory.specs.Picks.{picks}
 use Rattle.theory.specs.Nodes.{above_bits}
 use Rattle.theory.specs.Sides.{side_held, value_in, entry_at, side_data}
 use Rattle.theory.specs.Contexts.{cover_for, entry_for, cover_entry, Shorter}
 use Rattle.theory.specs.Steps
+use Rattle.theory.specs.Kinds.{Cover, Emit, Node, Value}
 
 -- ---- covers: what code works out is what stands above
 
 -- a cover is shorter than n
 abbrev pub ShortCover : Cover → ℕ → Type 0
-ShortCover Nothing n = Unit {0}
-ShortCover (Of m v) n = m < n
+ShortCover None n = Unit {0}
+ShortCover (Some a) n = a.len < n
 
 pub shorter_of : (o : Option Entry) (n : ℕ) → ShortCover (cover_for o) n → Shorter o n
 shorter_of none n h = h
 shorter_of (some e) n h = h
 
 short_more : (c : Cover) (m n : ℕ) → m ≤ n → ShortCover c m → ShortCover c n
-short_more Nothing m n l h = h
-short_more (Of k v) m n l h = omega arith
+short_more None m n l h = h
+short_more (Some a) m n l h = omega arith
 
 short_nearer : (x : Value) (m : ℕ) (c : Cover) → ShortCover c m → ShortCover (Steps.nearer x m c) (suc m)
-short_nearer Missing m c h = short_more c m (suc m) (omega arith) h
-short_nearer (Is v) m c h = omega arith
+short_nearer None m c h = short_more c m (suc m) (omega arith) h
+short_nearer (Some v) m c h = omega arith
 
 pub longest_entry : (c : Option Entry) (q : Prefix) (x : Value) → cover_for (longest c (entry_at q x) q) ≡ Steps.nearer x q.len (cover_for c)
-longest_entry c q Missing = refl
-longest_entry c q (Is v) = rw (leads_self q, longest)
+longest_entry c q None = refl
+longest_entry c q (Some v) = rw (leads_self q, longest)
 
 module _ (s : Side) (lv : ℕ) (o : Node) (p : Prefix) (c : Cover) where
   abbrev held : Place → List Entry
@@ -75,8 +69,8 @@ module _ (s : Side) (lv : ℕ) (o : Node) (p : Prefix) (c : Cover) where
 
 -- what a data place gives, as records
 abbrev pub emitted : Emit → List Record
-emitted emit.Nothing = []
-emitted (emit.One i) = Steps.item_record i ∷ []
+emitted None = []
+emitted (Some i) = Steps.item_record i ∷ []
 
 -- a place that a covering difference visits is not covered
 abbrev pub Free : Operation → Bool → Type 0
@@ -100,13 +94,13 @@ module _ (q : Prefix) (cl cr : Option Entry) (ol : own q cl ≡ false) (or : own
   put_again : put q (q ∷ []) ≡ q ∷ []
   put_again = rw (before_irrefl q, put)
 
-  at_left : (a : ℕ) → covering cl cr (entry_at q (Is a)) [] ≡ record { key = q.key; len = q.len; tag = 1; left = a; right = value_of cr; cover = cover_of cr } ∷ []
+  at_left : (a : ℕ) → covering cl cr (entry_at q (Some a)) [] ≡ record { key = q.key; len = q.len; tag = 1; left = a; right = value_of cr; cover = cover_of cr } ∷ []
   at_left a = rw (leads_self q, longest, own_here a, or)
 
-  at_right : (b : ℕ) → covering cl cr [] (entry_at q (Is b)) ≡ record { key = q.key; len = q.len; tag = 2; left = value_of cl; right = b; cover = cover_of cl } ∷ []
+  at_right : (b : ℕ) → covering cl cr [] (entry_at q (Some b)) ≡ record { key = q.key; len = q.len; tag = 2; left = value_of cl; right = b; cover = cover_of cl } ∷ []
   at_right b = rw (leads_self q, longest, own_here b, ol)
 
-  at_both : (a b : ℕ) → covering cl cr (entry_at q (Is a)) (entry_at q (Is b)) ≡ record { key = q.key; len = q.len; tag = 3; left = a; right = b; cover = no_cover } ∷ []
+  at_both : (a b : ℕ) → covering cl cr (entry_at q (Some a)) (entry_at q (Some b)) ≡ record { key = q.key; len = q.len; tag = 3; left = a; right = b; cover = no_cover } ∷ []
   at_both a b = rw put_again (rw (leads_self q, longest, own_here a))
 
   left_cover : (a : ℕ) (c : Option Entry) → record { key = q.key; len = q.len; tag = 1; left = a; right = value_of c; cover = cover_of c } ≡ Steps.item_record (Left q a (cover_for c))
@@ -124,23 +118,23 @@ module _ (q : Prefix) (cl cr : Option Entry) (ol : own q cl ≡ false) (or : own
   -- a data place gives its item, or nothing
   pub emits : (op : Operation) (x y : Value) → Free op (Steps.is_cover (Steps.nearer y q.len (cover_for cr)))
       → picks op (covering cl cr (entry_at q x) (entry_at q y)) ≡ emitted (Steps.emit_of op q x y (cover_for cl) (cover_for cr))
-  emits Union Missing Missing h = refl
-  emits Union (Is a) Missing h = ap (picks Union) (at_left a)
-  emits Union Missing (Is b) h = ap (picks Union) (at_right b)
-  emits Union (Is a) (Is b) h = ap (picks Union) (at_both a b)
-  emits Intersection Missing Missing h = refl
-  emits Intersection (Is a) Missing h = ap (picks Intersection) (at_left a)
-  emits Intersection Missing (Is b) h = ap (picks Intersection) (at_right b)
-  emits Intersection (Is a) (Is b) h = ap (picks Intersection) (at_both a b)
-  emits Difference Missing Missing h = refl
-  emits Difference (Is a) Missing h = ap (picks Difference) (at_left a)
-  emits Difference Missing (Is b) h = ap (picks Difference) (at_right b)
-  emits Difference (Is a) (Is b) h = ap (picks Difference) (at_both a b)
-  emits CoveringDifference Missing Missing h = refl
-  emits CoveringDifference (Is a) Missing h = ap (picks CoveringDifference) (at_left a) ∙ rw (uncovered cr h)
-  emits CoveringDifference Missing (Is b) h = ap (picks CoveringDifference) (at_right b)
-  emits CoveringDifference (Is a) (Is b) h = ap (picks CoveringDifference) (at_both a b)
-  emits CoveringUnion Missing Missing h = refl
-  emits CoveringUnion (Is a) Missing h = ap (picks CoveringUnion) (at_left a) ∙ ap (λ (r : Record). r ∷ []) (left_cover a cr)
-  emits CoveringUnion Missing (Is b) h = ap (picks CoveringUnion) (at_right b) ∙ ap (λ (r : Record). r ∷ []) (right_cover b cl)
-  emits CoveringUnion (Is a) (Is b) h = ap (picks CoveringUnion) (at_both a b)
+  emits Union None None h = refl
+  emits Union (Some a) None h = ap (picks Union) (at_left a)
+  emits Union None (Some b) h = ap (picks Union) (at_right b)
+  emits Union (Some a) (Some b) h = ap (picks Union) (at_both a b)
+  emits Intersection None None h = refl
+  emits Intersection (Some a) None h = ap (picks Intersection) (at_left a)
+  emits Intersection None (Some b) h = ap (picks Intersection) (at_right b)
+  emits Intersection (Some a) (Some b) h = ap (picks Intersection) (at_both a b)
+  emits Difference None None h = refl
+  emits Difference (Some a) None h = ap (picks Difference) (at_left a)
+  emits Difference None (Some b) h = ap (picks Difference) (at_right b)
+  emits Difference (Some a) (Some b) h = ap (picks Difference) (at_both a b)
+  emits CoveringDifference None None h = refl
+  emits CoveringDifference (Some a) None h = ap (picks CoveringDifference) (at_left a) ∙ rw (uncovered cr h)
+  emits CoveringDifference None (Some b) h = ap (picks CoveringDifference) (at_right b)
+  emits CoveringDifference (Some a) (Some b) h = ap (picks CoveringDifference) (at_both a b)
+  emits CoveringUnion None None h = refl
+  emits CoveringUnion (Some a) None h = ap (picks CoveringUnion) (at_left a) ∙ ap (λ (r : Record). r ∷ []) (left_cover a cr)
+  emits CoveringUnion None (Some b) h = ap (picks CoveringUnion) (at_right b) ∙ ap (λ (r : Record). r ∷ []) (right_cover b cl)
+  emits CoveringUnion (Some a) (Some b) h = ap (picks CoveringUnion) (at_both a b)

@@ -1,5 +1,5 @@
 -- The walk, one step at a time: what each step does, as code does it, and what a level still has to give.
-use Rattle.std.specs.Prelude.{Bool, true, false, not, ◌&&◌, ◌||◌, List, [], ◌∷◌, ◌++◌, ℕ, zero, suc, ◌+◌, ◌-◌, ◌/◌, ◌^◌, eqb, leb, get_or}
+use Rattle.std.specs.Prelude.{Bool, true, false, not, ◌&&◌, ◌||◌, List, [], ◌∷◌, ◌++◌, ℕ, zero, suc, ◌+◌, ◌-◌, ◌/◌, ◌^◌, eqb, leb, get_or, None, Some}
 use Rattle.std.specs.Int.Count.{count_trailing_zeros}
 use Rattle.defs.specs.declared.Prefix.{Prefix}
 use Rattle.defs.specs.declared.Operation.{Operation}
@@ -11,17 +11,9 @@ use Rattle.defs.specs.Entries.{Place, data_place, child_place, places}
 use Rattle.defs.specs.Lists.{Record, missing, no_cover}
 use Rattle.defs.specs.Tidy.{word_of}
 use Rattle.defs.specs.Outcome.{Side}
-use Rattle.theory.specs.declared.Node.{Node}
-use Rattle.theory.specs.declared.Node.TheVariants.{Absent, At}
-use Rattle.theory.specs.declared.Value.{Value}
-use Rattle.theory.specs.declared.Value.TheVariants.{Missing, Is}
-use Rattle.theory.specs.declared.Cover.{Cover}
-use Rattle.theory.specs.declared.Cover.TheVariants.{Nothing, Of}
 use Rattle.theory.specs.declared.Covers.{Covers}
 use Rattle.theory.specs.declared.Item.{Item}
 use Rattle.theory.specs.declared.Item.TheVariants.{Left, Right, Both}
-use Rattle.theory.specs.declared.Emit.{Emit}
-use Rattle.theory.specs.declared.Emit.TheVariants as emit
 use Rattle.theory.specs.declared.Level.{Level}
 use Rattle.theory.specs.declared.Step.{Step}
 use Rattle.theory.specs.declared.Step.TheVariants as step
@@ -30,6 +22,7 @@ use Rattle.theory.specs.Nodes.{place_records}
 use Rattle.theory.specs.Picks.{picks}
 use Rattle.theory.specs.Contexts.{entry_for}
 use Rattle.theory.specs.Todo.{picked}
+use Rattle.theory.specs.Kinds.{a_cover, Cover, Emit, Node, Value}
 
 -- what a walk is given: the list, and two sides
 pub record Job : Type 0 where
@@ -39,12 +32,12 @@ pub record Job : Type 0 where
 
 -- the value word and the cover word of a cover
 abbrev pub value_for : Cover → ℕ
-value_for Nothing = missing
-value_for (Of n v) = v
+value_for None = missing
+value_for (Some a) = a.value
 
 abbrev pub len_for : Cover → ℕ
-len_for Nothing = no_cover
-len_for (Of n v) = n
+len_for None = no_cover
+len_for (Some a) = a.len
 
 -- the record of an item
 abbrev pub item_record : Item → Record
@@ -59,13 +52,13 @@ place_bit d c (child_place k) = bit k c
 
 -- a side's node has the place's bit set
 abbrev pub marked : List ℕ → Node → Place → Bool
-marked w Absent x = false
-marked w (At i) x = place_bit (data_of w i) (child_of w i) x
+marked w None x = false
+marked w (Some i) x = place_bit (data_of w i) (child_of w i) x
 
 -- a value at a place of so many bits is a nearer cover
 abbrev pub nearer : Value → ℕ → Cover → Cover
-nearer Missing n c = c
-nearer (Is v) n c = Of n v
+nearer None n c = c
+nearer (Some v) n c = a_cover n v
 
 -- the nearest entry of a side above the n bits of value v in its node of prefix p, or else c
 abbrev pub cover_bits : Side → Node → Prefix → Cover → ℕ → ℕ → Cover
@@ -78,8 +71,8 @@ cover_on s o p c (data_place n v) = nearer (value_in s.pool s.root o n v (deeper
 cover_on s o p c (child_place v) = cover_bits s o p c 5 v
 
 abbrev pub is_cover : Cover → Bool
-is_cover Nothing = false
-is_cover (Of n v) = true
+is_cover None = false
+is_cover (Some a) = true
 
 -- whether a list wants a place, by the two sides' bits there and whether the right side covers it
 abbrev pub wants : Operation → Bool → Bool → Bool → Bool
@@ -98,7 +91,7 @@ abbrev pub enter : Job → Prefix → Node → Node → Covers → Level
 enter j p l r above = record { prefix = p; left = l; right = r; above = above; todo = word_of (wanted j p l r above) places }
 
 abbrev pub no_covers : Covers
-no_covers = record { left = Nothing; right = Nothing }
+no_covers = record { left = None; right = None }
 
 -- covers travel with the covering union alone
 abbrev pub carried : Operation → Covers → Covers
@@ -110,23 +103,23 @@ carried CoveringDifference c = no_covers
 
 -- what a wanted data place of prefix q gives, by the values there and the covers above it
 abbrev pub emit_union : Prefix → Value → Value → Cover → Cover → Emit
-emit_union q Missing Missing cl cr = emit.Nothing
-emit_union q (Is a) Missing cl cr = emit.One (Left q a cr)
-emit_union q Missing (Is b) cl cr = emit.One (Right q b cl)
-emit_union q (Is a) (Is b) cl cr = emit.One (Both q a b)
+emit_union q None None cl cr = None
+emit_union q (Some a) None cl cr = Some (Left q a cr)
+emit_union q None (Some b) cl cr = Some (Right q b cl)
+emit_union q (Some a) (Some b) cl cr = Some (Both q a b)
 
 abbrev pub emit_both : Prefix → Value → Value → Emit
-emit_both q (Is a) (Is b) = emit.One (Both q a b)
-emit_both q (Is a) Missing = emit.Nothing
-emit_both q Missing b = emit.Nothing
+emit_both q (Some a) (Some b) = Some (Both q a b)
+emit_both q (Some a) None = None
+emit_both q None b = None
 
 abbrev pub emit_left : Prefix → Value → Value → Emit
-emit_left q (Is a) Missing = emit.One (Left q a Nothing)
-emit_left q (Is a) (Is b) = emit.Nothing
-emit_left q Missing b = emit.Nothing
+emit_left q (Some a) None = Some (Left q a None)
+emit_left q (Some a) (Some b) = None
+emit_left q None b = None
 
 abbrev pub emit_of : Operation → Prefix → Value → Value → Cover → Cover → Emit
-emit_of Union q a b cl cr = emit_union q a b Nothing Nothing
+emit_of Union q a b cl cr = emit_union q a b None None
 emit_of Intersection q a b cl cr = emit_both q a b
 emit_of Difference q a b cl cr = emit_left q a b
 emit_of CoveringDifference q a b cl cr = emit_left q a b
@@ -145,14 +138,14 @@ covers_at j f n v =
     }
 
 abbrev pub given : Emit → Level → Step
-given emit.Nothing f = step.Skip f
-given (emit.One i) f = step.Record i f
+given None f = step.Skip f
+given (Some i) f = step.Record i f
 
 -- down to two children of prefix q, unless there is none
 abbrev pub down_to : Job → Level → Prefix → Node → Node → Covers → Step
-down_to j f q Absent Absent above = step.Skip f
-down_to j f q Absent (At b) above = step.Down f (enter j q Absent (At b) above)
-down_to j f q (At a) r above = step.Down f (enter j q (At a) r above)
+down_to j f q None None above = step.Skip f
+down_to j f q None (Some b) above = step.Down f (enter j q None (Some b) above)
+down_to j f q (Some a) r above = step.Down f (enter j q (Some a) r above)
 
 -- what the data place of n bits of value v of a level gives
 abbrev pub emit_at : Job → Level → ℕ → ℕ → Emit

@@ -1,5 +1,5 @@
 -- Places that a list does not want give it nothing.
-use Rattle.std.specs.Prelude.{◌≡◌, refl, Bool, true, false, ◌||◌, List, [], map, ℕ, zero, suc, ◌+◌, ◌*◌, ◌^◌, ◌≤◌, ◌<◌, leb}
+use Rattle.std.specs.Prelude.{◌≡◌, refl, Bool, true, false, ◌||◌, List, [], map, ℕ, zero, suc, ◌+◌, ◌*◌, ◌^◌, ◌≤◌, ◌<◌, leb, None, Some}
 use Rattle.std.proofs.Common.{◌∙◌, ap, arith, ne_eqb, leb-true, leb-false}
 use Rattle.std.proofs.Math.Option.{Option, none, some}
 use Rattle.defs.specs.declared.Prefix.{Prefix}
@@ -14,8 +14,6 @@ use Rattle.defs.proofs.PrefixLaws.{leads_len}
 use Rattle.defs.proofs.OrderLaws.{all_merge}
 use Rattle.defs.specs.NodeLaws.{Real, Fits}
 use Rattle.defs.proofs.DeeperLaws.{whole_deeper}
-use Rattle.theory.specs.declared.Node.{Node}
-use Rattle.theory.specs.declared.Node.TheVariants.{Absent, At}
 use Rattle.theory.specs.declared.Covers.{Covers}
 use Rattle.theory.specs.Covering.{own, record_at, covering}
 use Rattle.theory.specs.Picks.{picks, pick, has, has_longest, longest_short}
@@ -24,6 +22,7 @@ use Rattle.theory.specs.Sides.{side_held, value_in, side_data, side_fits}
 use Rattle.theory.specs.Contexts.{cover_for, entry_for, Shorter, not_own}
 use Rattle.theory.specs.Steps
 use Rattle.theory.specs.StepLaws.{ShortCover, longest_entry, cover_above, shorter_above}
+use Rattle.theory.specs.Kinds.{Node}
 
 -- a place of a node: of n bits of value v, n up to 4, or a child up to 31
 abbrev pub InNode : Place → Type 0
@@ -72,9 +71,9 @@ module _ (cl cr : Option Entry) (n : ℕ) (sl : Shorter cl n) (sr : Shorter cr n
           (λ i. rw i)
 
 unmarked : (w : List ℕ) (root : Prefix) (lv : ℕ) (o : Node) (p : Prefix) (x : Place) → Steps.marked w o x ≡ false → side_held w root lv o p x ≡ []
-unmarked w root lv Absent p x h = refl
-unmarked w root lv (At i) p (data_place n v) h = rw h
-unmarked w root lv (At i) p (child_place c) h = rw h
+unmarked w root lv None p x h = refl
+unmarked w root lv (Some i) p (data_place n v) h = rw h
+unmarked w root lv (Some i) p (child_place c) h = rw h
 
 has_cover : (o : Option Entry) → has o ≡ Steps.is_cover (cover_for o)
 has_cover none = refl

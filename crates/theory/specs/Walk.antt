@@ -1,6 +1,6 @@
 -- The walk: each step keeps what is still to be given, a level entered gives what lies below its place, and the whole list is what is
 -- left at the start.
-use Rattle.std.specs.Prelude.{◌≡◌, refl, Bool, true, false, List, [], ◌∷◌, ◌++◌, ℕ, zero, suc, ◌+◌, ◌*◌, ◌-◌, ◌/◌, ◌%◌, ◌^◌, ◌≤◌, ◌<◌, eqb, leb, length}
+use Rattle.std.specs.Prelude.{◌≡◌, refl, Bool, true, false, List, [], ◌∷◌, ◌++◌, ℕ, zero, suc, ◌+◌, ◌*◌, ◌-◌, ◌/◌, ◌%◌, ◌^◌, ◌≤◌, ◌<◌, eqb, leb, length, None, Some}
 use Rattle.std.proofs.Common.{sym, ◌∙◌, ap, subst, arith, mul-le-mul_right, suc-mul, eqb-true, leb-true, leb-false}
 use Rattle.std.proofs.Math.Option.{Option, none, some}
 use Rattle.std.proofs.Math.Nat.{mul-div_right}
@@ -22,12 +22,7 @@ use Rattle.defs.specs.OrderLaws.{end}
 use Rattle.defs.specs.EntryLaws.{Sound}
 use Rattle.defs.proofs.EntryLaws.{sound, sound_under}
 use Rattle.defs.proofs.DeeperLaws.{whole_deeper}
-use Rattle.theory.specs.declared.Node.{Node}
-use Rattle.theory.specs.declared.Node.TheVariants.{Absent, At}
-use Rattle.theory.specs.declared.Cover.{Cover}
 use Rattle.theory.specs.declared.Covers.{Covers}
-use Rattle.theory.specs.declared.Emit.{Emit}
-use Rattle.theory.specs.declared.Emit.TheVariants as emit
 use Rattle.theory.specs.declared.Level.{Level}
 use Rattle.theory.specs.declared.Step.{Step}
 use Rattle.theory.specs.declared.Step.TheVariants as step
@@ -40,6 +35,7 @@ use Rattle.theory.specs.Todo.{picked, picked_none, picked_word, word_lt, Lowest,
 use Rattle.theory.specs.Steps
 use Rattle.theory.specs.StepLaws.{ShortCover, shorter_of, short_bits, cover_above, shorter_above, emitted, Free, free_of, emits}
 use Rattle.theory.specs.Unwanted.{places_in_node, unwanted}
+use Rattle.theory.specs.Kinds.{Cover, Emit, Node}
 
 -- what holds of a level of a walk
 pub record LevelOk (j : Steps.Job) (f : Level) : Type 0 where
@@ -61,8 +57,8 @@ picks_each op f (x ∷ xs) = each_append (pick op) (f x) (each f xs) ∙ ap (pic
 
 -- a side's entries in a node and below it
 side_sound : (s : Side) (lv : ℕ) (o : Node) (p : Prefix) → Whole p → p.len + 5 * lv ≡ 65 → Sound p (side_entries s.pool s.root lv o p)
-side_sound s lv Absent p w e = record { led_by = nil; ascend = end; all_real = nil }
-side_sound s lv (At i) p w e = sound_under s.root p (entries_at s.pool lv i p) (sound s.pool lv i p w e)
+side_sound s lv None p w e = record { led_by = nil; ascend = end; all_real = nil }
+side_sound s lv (Some i) p w e = sound_under s.root p (entries_at s.pool lv i p) (sound s.pool lv i p w e)
 
 sound_good : {q : Prefix} {a : List Entry} → Sound q a → Good a
 sound_good s = record { asc = s.ascend; real = s.all_real }
@@ -234,7 +230,7 @@ module _ (j : Steps.Job) (f : Level) (ok : LevelOk j f) where
         ∙ by_places j.op j.left j.right ((60 - q.len) / 5) l' r' q whole' depth' (entry_for covers'.left) (entry_for covers'.right)
         ∙ sym (enter_rest j q l' r' covers' whole' depth' (short_carried j.op).0 (short_carried j.op).1)
 
-    pub child_none : l' ≡ Absent → r' ≡ Absent → Steps.place_list j f (child_place c) ≡ []
+    pub child_none : l' ≡ None → r' ≡ None → Steps.place_list j f (child_place c) ≡ []
     child_none a b =
         below_place
         ∙ ap (λ (n : Node). picks j.op (covering (entry_for covers'.left) (entry_for covers'.right) (side_entries j.left.pool j.left.root lv n q) (side_entries j.right.pool j.right.root lv r' q))) a
@@ -266,16 +262,16 @@ step_cost (step.Record i f) = level_cost f
 step_cost (step.Down f g) = level_cost g + level_cost f
 
 given_rest : (j : Steps.Job) (e : Emit) (f : Level) → Steps.step_rest j (Steps.given e f) ≡ emitted e ++ Steps.level_rest j f
-given_rest j emit.Nothing f = refl
-given_rest j (emit.One i) f = refl
+given_rest j None f = refl
+given_rest j (Some i) f = refl
 
 given_ok : (j : Steps.Job) (e : Emit) (f : Level) → LevelOk j f → StepOk j f (Steps.given e f)
-given_ok j emit.Nothing f k = (k, refl)
-given_ok j (emit.One i) f k = (k, refl)
+given_ok j None f k = (k, refl)
+given_ok j (Some i) f k = (k, refl)
 
 given_cost : (e : Emit) (f : Level) → step_cost (Steps.given e f) ≡ level_cost f
-given_cost emit.Nothing f = refl
-given_cost (emit.One i) f = refl
+given_cost None f = refl
+given_cost (Some i) f = refl
 
 picked_most : {A : Type 0} (t : ℕ) (l : List A) → length (picked t l) ≤ length l
 picked_most t [] = omega arith
@@ -334,9 +330,9 @@ module _ (j : Steps.Job) (f : Level) (ok : LevelOk j f) where
       choose : (l r : Node) → child_in j.left.pool j.left.root f.left c (deeper f.prefix 5 c) ≡ l
           → child_in j.right.pool j.right.root f.right c (deeper f.prefix 5 c) ≡ r → f.prefix.len < 60
           → Keeps (child_place c) (Steps.down_to j f (deeper f.prefix 5 c) l r (Steps.carried j.op (Steps.covers_at j f 5 c)))
-      choose Absent Absent a b d = skip c (child_none j f ok c d (free j f ok (child_place c) h) a b)
-      choose Absent (At m) a b d = rw (← a, ← b) (down c d (free j f ok (child_place c) h))
-      choose (At k) r a b d = rw (← a, ← b) (down c d (free j f ok (child_place c) h))
+      choose None None a b d = skip c (child_none j f ok c d (free j f ok (child_place c) h) a b)
+      choose None (Some m) a b d = rw (← a, ← b) (down c d (free j f ok (child_place c) h))
+      choose (Some k) r a b d = rw (← a, ← b) (down c d (free j f ok (child_place c) h))
 
 -- what a step keeps: what there is to give, levels as they should be, and fewer steps to come
 pub record StepKeeps (j : Steps.Job) (f : Level) (s : Step) : Type 0 where

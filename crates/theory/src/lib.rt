@@ -3,26 +3,21 @@
 
 use defs::Prefix;
 
-// The node of one side at a level of the walk, or none.
-#[derive(Clone, Copy)]
-pub enum Node {
-    Absent,
-    At(u32),
-}
+// The node of one side at a level of the walk, by its number in the pool, or none.
+pub type Node = Option<u32>;
 
 // The value index of one side at a data place, or none.
+pub type Value = Option<u32>;
+
+// An entry that leads a place: its length and its value index.
 #[derive(Clone, Copy)]
-pub enum Value {
-    Missing,
-    Is(u32),
+pub struct Above {
+    pub len: u32,
+    pub value: u32,
 }
 
 // The longest entry of the other side that leads a record, or none.
-#[derive(Clone, Copy)]
-pub enum Cover {
-    Nothing,
-    Of { len: u32, value: u32 },
-}
+pub type Cover = Option<Above>;
 
 // An item of a list: of one side alone, with its cover, or of both.
 #[derive(Clone, Copy)]
@@ -42,13 +37,6 @@ pub enum Item {
         left: u32,
         right: u32,
     },
-}
-
-// What a data place gives to a list.
-#[derive(Clone, Copy)]
-pub enum Emit {
-    Nothing,
-    One(Item),
 }
 
 // The longest entry of each side above a node, or none.

@@ -1,10 +1,9 @@
 -- A call from its tests to its buffers: the refusal table, and what the loops over the nodes come to.
-use Rattle.std.specs.Prelude.{◌≡◌, refl, Bool, true, false, ◌||◌, ℕ, zero, suc, ◌+◌, ◌-◌, ◌*◌, ◌/◌, ◌^◌, ◌≤◌, ◌<◌, eqb, ltb, length, get_or}
+use Rattle.std.specs.Prelude.{◌≡◌, refl, Bool, true, false, ◌||◌, ℕ, zero, suc, ◌+◌, ◌-◌, ◌*◌, ◌/◌, ◌^◌, ◌≤◌, ◌<◌, eqb, ltb, length, get_or, Ok, Err}
 use Rattle.std.proofs.Math.Path.{sym, ap, subst}
-use Rattle.std.proofs.Common.{ap₂, ◌∙◌, arith, length-append, eqb-true, ne_eqb, lt-ltb, le-ltb, ltb-false}
+use Rattle.std.proofs.Common.{ltb-false, ap₂, ◌∙◌, arith, length-append, eqb-true, ne_eqb, lt-ltb, le-ltb}
 use mathlib.Core.List.{List, [], ◌∷◌, map}
 use Rattle.std.proofs.lemmas.List.{length-map}
-use Rattle.std.proofs.lemmas.Bool.{eqb-false}
 use Rattle.defs.specs.declared.Prefix.{Prefix}
 use Rattle.defs.specs.declared.Answer.{Answer}
 use Rattle.defs.specs.Basics.{if◌then◌otherwise◌, keep, each, up_to}
@@ -14,10 +13,13 @@ use Rattle.defs.specs.Check.{fault_of}
 use Rattle.defs.specs.Tidy.{data_prefixes, entries_in, nodes_of, tidy_pool, tidy_values}
 use Rattle.defs.specs.Lemmas.{All, nil, more, split, all_both, all_keep, keep_on, each_on}
 use Rattle.defs.specs.Outcome.{Row, answer, first_of, Side, entries_of, width_row, fault_row, root_row, room_row, tidy_rows, Tidied, tidy_outcome, check_outcome}
+use Rattle.defs.specs.declared.refusals.PoolError.{PoolError}
+use Rattle.defs.specs.declared.refusals.PoolError.TheVariants as NoPool
+use Rattle.defs.specs.Refusals.{answer_for, checked, on_left}
 use Rattle.defs.specs.OutcomeLaws.{first_stays, first_passes, refused_keeps}
 use Rattle.bits.specs.WordLaws.{rank_all}
 use Rattle.pool.specs.Sound.{formed, data_small, values_small}
-use Rattle.pool.specs.Answers.{zero_says, one_says, one_of, two_says, two_else}
+use Rattle.pool.specs.Answers.{zero_says, one_says, two_says}
 use Rattle.tidied.specs.ListFacts.{run, up_to_run, at_run, run_from, run_below, all_up_to, length_up_to}
 use Rattle.tidied.specs.Words.{word_bit, word_lt}
 use Rattle.tidied.specs.Layout.{is_here, data_count}
@@ -29,6 +31,8 @@ use Rattle.tidied.specs.Demand3.{tidy_entries_lem}
 use borrow.Rule.Slice.PartMut.{put_mid, mid_of}
 use Rattle.view.specs.declared.Bitmaps.{Bitmaps}
 use Rattle.view.specs.Standing.{Sane, nodes_few}
+use Rattle.view.specs.declared.side.Side as code
+use Rattle.view.specs.Seen.{seen}
 use Rattle.tidy.specs.Kept.{data_on, kids_on, node_on}
 use Rattle.tidy.specs.Chosen.{over, values_from, values_length, node_words, is_kept, chosen, ones_of, Counting, counting_end, Writing, writing_same, writing_room, writing_on, writing_off, writing_end}
 
@@ -204,10 +208,6 @@ module _ (width : ℕ) (s : Side) where
       none : (m : ℕ) → suc m ≡ 0 → Passed
       none m e = absurd (omega arith)
 
-  -- the same of an answer as the code has it
-  pub code_passed : (a : Answer) → a ≡ first_of (pool_rows width s) 0 → a.number ≡ 0 → Passed
-  code_passed a e z = zero_passed (sym (ap (λ (x : Answer). x.number) e) ∙ z)
-
   pub passed_width : Passed → width ≤ 64
   passed_width p = split (eqb width 32) (λ a. let e = eqb-true width 32 a in omega arith) (λ a. let e = eqb-true width 64 (rw a at p.known) in omega arith)
 
@@ -217,32 +217,31 @@ module _ (width : ℕ) (s : Side) where
   pub passed_sane : Passed → Sane s.pool
   passed_sane p = record { width = width; most = passed_width p; formed = formed width s.pool p.faultless }
 
-  -- the refusals, from the check's answer
-  module _ (a : Answer) (ea : a ≡ check_outcome width s.pool) where
-    number_is : a.number ≡ (check_outcome width s.pool).number
-    number_is = ap (λ (x : Answer). x.number) ea
+  -- the refusals, from what the check says
+  pub pool_refused : (e : PoolError) → checked (Err e) ≡ check_outcome width s.pool → answer_for (on_left e) ≡ first_of (pool_rows width s) 0
+  pool_refused NoPool.Width h = rw (one_says width s.pool (sym (ap (λ (x : Answer). x.number) h)))
+  pool_refused (NoPool.Fault fault node) h =
+      let f = two_says width s.pool (sym (ap (λ (x : Answer). x.number) h)) in
+      ap (λ (m : ℕ). answer 2 m 0) (ap (λ (x : Answer). x.beside) h ∙ f.node) ∙ rw (f.width_known, lt-ltb 0 (fault_of width s.pool).number f.some)
 
-    pub code_1 : a.number ≡ 1 → answer 1 0 0 ≡ first_of (pool_rows width s) 0
-    code_1 h = rw (one_says width s.pool (sym number_is ∙ h))
+  module _ (m : ℕ) (k : checked (Ok m) ≡ check_outcome width s.pool) where
+    good : (check_outcome width s.pool).number ≡ 0
+    good = sym (ap (λ (x : Answer). x.number) k)
 
-    pub code_2 : a.number ≡ 2 → answer 2 a.beside 0 ≡ first_of (pool_rows width s) 0
-    code_2 h =
-        let f = two_says width s.pool (sym number_is ∙ h) in
-        ap (λ (m : ℕ). answer 2 m 0) (ap (λ (x : Answer). x.beside) ea ∙ f.node) ∙ rw (f.width_known, lt-ltb 0 (fault_of width s.pool).number f.some)
+    pub root_long : width < s.root.len → answer 4 0 0 ≡ first_of (pool_rows width s) 0
+    root_long h = let z = zero_says width s.pool good in rw (z.0, z.1, lt-ltb width s.root.len h)
 
-    module _ (n1 : a.number ≡ 1 → ⊥) (n2 : a.number ≡ 2 → ⊥) where
-      good : (check_outcome width s.pool).number ≡ 0
-      good =
-          split (eqb (check_outcome width s.pool).number 0) (λ e. eqb-true _ _ e)
-          (λ e.
-          split (eqb width 32 || eqb width 64) (λ t. absurd (n2 (number_is ∙ two_else width s.pool t (eqb-false _ _ e))))
-          (λ t. absurd (n1 (number_is ∙ ap (λ (x : Answer). x.number) (one_of width s.pool t)))))
+    pub root_passed : s.root.len ≤ width → answer 0 0 0 ≡ first_of (pool_rows width s) 0
+    root_passed h = let z = zero_says width s.pool good in rw (z.0, z.1, le-ltb width s.root.len h)
 
-      pub code_4 : width < s.root.len → answer 4 0 0 ≡ first_of (pool_rows width s) 0
-      code_4 h = let z = zero_says width s.pool good in rw (z.0, z.1, lt-ltb width s.root.len h)
+    pub all_passed : s.root.len ≤ width → Passed
+    all_passed h = let z = zero_says width s.pool good in record { known = z.0; faultless = z.1; short = h }
 
-      pub code_0 : s.root.len ≤ width → answer 0 0 0 ≡ first_of (pool_rows width s) 0
-      code_0 h = let z = zero_says width s.pool good in rw (z.0, z.1, le-ltb width s.root.len h)
+-- the side that was opened is that of the call, and its tests passed
+pub record Opened (width : ℕ) (s : Side) (o : code.Side) : Type 0 where
+  pub side_is : seen o ≡ s
+  pub passed : Passed width (seen o)
+  pub none : first_of (pool_rows width s) 0 ≡ answer 0 0 0
 
 -- ---- the whole call
 module _ (width : ℕ) (s : Side) (out values : List ℕ) where

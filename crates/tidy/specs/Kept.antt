@@ -1,5 +1,5 @@
 -- What the tidy pool keeps of a node: its two bitmaps, as the code works them out from the node's prefix.
-use Rattle.std.specs.Prelude.{◌≡◌, Bool, true, not, ◌&&◌, ◌||◌, List, [], ◌∷◌, map, get_or}
+use Rattle.std.specs.Prelude.{◌≡◌, Bool, true, not, ◌&&◌, ◌||◌, List, [], ◌∷◌, map, get_or, Some}
 use Rattle.std.proofs.Math.Path.{refl, sym, ap, ap₂}
 use Rattle.std.proofs.Common.{◌∙◌, subst, arith, add-one, lt-ltb}
 use Rattle.std.proofs.Math.Bool.{false}
@@ -25,7 +25,6 @@ use Rattle.tidied.specs.Holds.{view_sound}
 use Rattle.tidied.specs.Spots.{under_view}
 use Rattle.tidied.specs.Source.{prefix_at, prefix_seen, prefix_depth}
 use Rattle.tidied.specs.Copying.{data_word, child_word, taken, view_word, used_words, under_inside, under_path, under_outside}
-use Rattle.theory.specs.declared.Node.TheVariants as node
 use Rattle.view.specs.declared.Bitmaps.{Bitmaps}
 use Rattle.view.specs.Standing.{Sane, nodes_few, child_inside}
 use Rattle.view.specs.Spreads.{one, word_on}
@@ -185,7 +184,7 @@ module _ (w : List ℕ) (root : Prefix) (i : ℕ) (p : Prefix) (h : Here w root 
       ap (λ (x : ℕ). get_or (data_prefixes p) x top) (sym e)
       ∙ (data_bit_lem p n v top (place_len_below (b + 1) (omega arith) (omega arith) 5 (omega arith)) (made (b + 1) (omega arith) (omega arith)).value).1
 
-  pub kept_data : kept_of w root (node.At i) p ≡ data_on w root i
+  pub kept_data : kept_of w root (Some i) p ≡ data_on w root i
   unfolding data_on
   kept_data =
       sym (kept_by_places w root p i (data_of w i) refl)
@@ -193,7 +192,7 @@ module _ (w : List ℕ) (root : Prefix) (i : ℕ) (p : Prefix) (h : Here w root 
       ∙ sym (view_word w root levels i p seen)
       ∙ ap (data_word (view w root)) h.prefix
 
-  pub kept_node : (d k : ℕ) → d ≡ kept_of w root (node.At i) p → k ≡ kids_on w root i → ◌≡◌ {A = Bitmaps} (record { «data» = d; child = k }) (node_on w root i)
+  pub kept_node : (d k : ℕ) → d ≡ kept_of w root (Some i) p → k ≡ kids_on w root i → ◌≡◌ {A = Bitmaps} (record { «data» = d; child = k }) (node_on w root i)
   kept_node d k ed ek = ap₂ (λ (x y : ℕ). record { «data» = x; child = y }) (ed ∙ kept_data) ek
 
   -- ---- a node under the root, and one on no path with it

@@ -18,7 +18,7 @@ use Rattle.theory.specs.Sides.{on_path}
 use Rattle.theory.specs.Down.{next_bits}
 use Rattle.tidied.specs.Source.{prefix_at, prefix_root, prefix_seen, prefix_depth, prefix_child}
 use Rattle.view.specs.Standing.{Sane, nodes_few}
-use Rattle.view.specs.Descent.{cut_to, next_bits_lem}
+use Rattle.view.specs.Descent.{cut_to}
 use Rattle.view.specs.declared.Bitmaps.{Bitmaps}
 use Rattle.tidy.specs.declared.Run.{Run}
 use Rattle.tidy.specs.Full.{full_kids}
@@ -167,9 +167,9 @@ module _ (root : Prefix) (long : root.len ≤ 64) (d : ℕ) (over : d < root.len
         ones_apart zero e a b h = omega arith
         ones_apart (suc m) e a b h = absurd (let z : ⊥ = omega arith in z)
 
-  pub ahead_of : (size next : ℕ) → size ≡ 2 ^ m → next ≡ root.key / 2 ^ (59 - d) % 32 → d ≤ 59 → Ahead root d (next - next % size) (next - next % size + size)
+  pub ahead_of : (size next : ℕ) → size ≡ 2 ^ m → next ≡ next_bits d 5 root.key → d ≤ 59 → Ahead root d (next - next % size) (next - next % size + size)
   ahead_of size next es en n =
-      let ex : next ≡ x = en ∙ next_bits_lem root.key d n in
+      let ex : next ≡ x = en in
       subst (λ (s : ℕ). Ahead root d (next - next % s) (next - next % s + s)) (sym es)
       (subst (λ (y : ℕ). Ahead root d (y - y % 2 ^ m) (y - y % 2 ^ m + 2 ^ m)) (sym ex)
       (record {

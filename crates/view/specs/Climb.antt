@@ -1,5 +1,5 @@
 -- The nearest entry above a place: place h / 2 stands above place h.
-use Rattle.std.specs.Prelude.{◌≡◌, refl, false, List, ℕ, zero, suc, ◌+◌, ◌-◌, ◌*◌, ◌/◌, ◌%◌, ◌^◌, ◌≤◌, ◌<◌}
+use Rattle.std.specs.Prelude.{◌≡◌, refl, false, List, ℕ, zero, suc, ◌+◌, ◌-◌, ◌*◌, ◌/◌, ◌%◌, ◌^◌, ◌≤◌, ◌<◌, None, Some}
 use Rattle.std.proofs.Common.{sym, ap, ◌∙◌, arith}
 use Rattle.defs.specs.declared.Prefix.{Prefix}
 use Rattle.defs.specs.Prefix.{deeper}
@@ -8,15 +8,10 @@ use Rattle.defs.specs.PrefixLaws.{Whole}
 use Rattle.defs.specs.Outcome.{Side}
 use Rattle.bits.specs.Places.{place_len, place_value, place_prefix}
 use Rattle.bits.specs.PlaceLaws.{place_len_lem, place_len_below, place_prefix_lem, half_len, half_value}
-use Rattle.theory.specs.declared.Node.{Node}
-use Rattle.theory.specs.declared.Node.TheVariants.{Absent, At}
-use Rattle.theory.specs.declared.Value.{Value}
-use Rattle.theory.specs.declared.Value.TheVariants.{Missing, Is}
-use Rattle.theory.specs.declared.Cover.{Cover}
-use Rattle.theory.specs.declared.Cover.TheVariants.{Of}
 use Rattle.theory.specs.Sides.{value_in}
 use Rattle.theory.specs.Steps.{nearer, cover_bits}
 use Rattle.view.specs.Standing.{value_on, value_unset, value_of_lem}
+use Rattle.theory.specs.Kinds.{a_cover, Cover, Node, Value}
 
 module _ (s : Side) (o : Node) (p : Prefix) (above : Cover) where
   -- the nearest entry above place h
@@ -62,7 +57,7 @@ module _ (s : Side) (o : Node) (p : Prefix) (above : Cover) where
           ∙ ap (value_in s.pool s.root o (place_len (up / 2)) (place_value (up / 2)))
           (eq ∙ place_prefix_lem p (up / 2) half_some.0 (omega (arith, half_some.1)) whole fits (omega (arith, half_len_small)))
 
-      pub climb_on : r ≡ Missing → Climbing h (up / 2)
+      pub climb_on : r ≡ None → Climbing h (up / 2)
       climb_on e =
           record {
             some = half_some.0;
@@ -70,9 +65,9 @@ module _ (s : Side) (o : Node) (p : Prefix) (above : Cover) where
             same = one_up ∙ ap (λ (x : Value). nearer x (p.len + place_len (up / 2)) (cover_of (up / 2))) (sym is_value_lem ∙ e);
           }
 
-      pub climb_stop : (v n : ℕ) → r ≡ Is v → n ≡ place_len (up / 2) → Of (p.len + n) v ≡ cover_of h
+      pub climb_stop : (v n : ℕ) → r ≡ Some v → n ≡ place_len (up / 2) → a_cover (p.len + n) v ≡ cover_of h
       climb_stop v n e en =
-          sym (one_up ∙ ap (λ (x : Value). nearer x (p.len + place_len (up / 2)) (cover_of (up / 2))) (sym is_value_lem ∙ e) ∙ ap (λ (x : ℕ). Of (p.len + x) v) (sym en))
+          sym (one_up ∙ ap (λ (x : Value). nearer x (p.len + place_len (up / 2)) (cover_of (up / 2))) (sym is_value_lem ∙ e) ∙ ap (λ (x : ℕ). a_cover (p.len + x) v) (sym en))
 
   pub climb_start : (h : ℕ) → 0 < h → Climbing h h
   climb_start h l = record { some = l; below = omega arith; same = refl }
@@ -88,26 +83,26 @@ module _ (w : List ℕ) (root : Prefix) (i : ℕ) (p : Prefix) (above : Cover) w
   abbrev side : Side
   side = record { pool = w; root = root }
 
-  module _ (h up : ℕ) (top : h < 64) (k : Climbing side (At i) p above h up) (l : 1 < up) (whole : Whole p) (fits : p.key < 2 ^ 64) (short : p.len ≤ 60) where
+  module _ (h up : ℕ) (top : h < 64) (k : Climbing side (Some i) p above h up) (l : 1 < up) (whole : Whole p) (fits : p.key < 2 ^ 64) (short : p.len ≤ 60) where
     abbrev halved : (0 < up / 2) × (up / 2 < 32)
-    halved = half_some side (At i) p above h up top k l
+    halved = half_some side (Some i) p above h up top k l
 
-    pub climb_unset : (held : ℕ) → held ≡ data_of w i → bit (up / 2 - 1) held ≡ false → Climbing side (At i) p above h (up / 2)
+    pub climb_unset : (held : ℕ) → held ≡ data_of w i → bit (up / 2 - 1) held ≡ false → Climbing side (Some i) p above h (up / 2)
     climb_unset held e t =
-        climb_on side (At i) p above h up top k l whole fits short (place_prefix p (up / 2)) refl Missing
-        (value_unset w root i (up / 2 - 1) (place_prefix p (up / 2)) held e t ∙ value_of_lem w root (At i) i (up / 2) (place_prefix p (up / 2)) refl halved.0 halved.1) refl
+        climb_on side (Some i) p above h up top k l whole fits short (place_prefix p (up / 2)) refl None
+        (value_unset w root i (up / 2 - 1) (place_prefix p (up / 2)) held e t ∙ value_of_lem w root (Some i) i (up / 2) (place_prefix p (up / 2)) refl halved.0 halved.1) refl
 
     module _ (q : Prefix) (eq : q ≡ place_prefix p (up / 2)) (r : Value) (er : r ≡ value_on w root i (up / 2 - 1) q) where
-      found : r ≡ value_in w root (At i) (place_len (up / 2)) (place_value (up / 2)) q
-      found = er ∙ value_of_lem w root (At i) i (up / 2) q refl halved.0 halved.1
+      found : r ≡ value_in w root (Some i) (place_len (up / 2)) (place_value (up / 2)) q
+      found = er ∙ value_of_lem w root (Some i) i (up / 2) q refl halved.0 halved.1
 
-      pub climb_outside : r ≡ Missing → Climbing side (At i) p above h (up / 2)
-      climb_outside e = climb_on side (At i) p above h up top k l whole fits short q eq r found e
+      pub climb_outside : r ≡ None → Climbing side (Some i) p above h (up / 2)
+      climb_outside e = climb_on side (Some i) p above h up top k l whole fits short q eq r found e
 
-      pub climb_found : (v n : ℕ) → r ≡ Is v → n ≡ place_len (up / 2) → Of (p.len + n) v ≡ cover_of side (At i) p above h
-      climb_found v n e en = climb_stop side (At i) p above h up top k l whole fits short q eq r found v n e en
+      pub climb_found : (v n : ℕ) → r ≡ Some v → n ≡ place_len (up / 2) → a_cover (p.len + n) v ≡ cover_of side (Some i) p above h
+      climb_found v n e en = climb_stop side (Some i) p above h up top k l whole fits short q eq r found v n e en
 
 -- where there is no node, what stands above it is the nearest
-pub no_node : (s : Side) (p : Prefix) (above : Cover) (n v : ℕ) → above ≡ cover_bits s Absent p above n v
+pub no_node : (s : Side) (p : Prefix) (above : Cover) (n v : ℕ) → above ≡ cover_bits s None p above n v
 no_node s p above zero v = refl
 no_node s p above (suc n) v = no_node s p above n (v / 2)

@@ -1,5 +1,5 @@
 -- The way down to a root: one level at a time, by the root's next 5 bits. The view at the root lies in the node that is reached.
-use Rattle.std.specs.Prelude.{◌≡◌, true, ◌&&◌, List, [], ◌∷◌, ℕ, zero, suc, ◌+◌, ◌-◌, ◌*◌, ◌/◌, ◌%◌, ◌^◌, ◌≤◌, ◌<◌, leb, eqb}
+use Rattle.std.specs.Prelude.{◌≡◌, true, ◌&&◌, List, [], ◌∷◌, ℕ, zero, suc, ◌+◌, ◌-◌, ◌*◌, ◌/◌, ◌%◌, ◌^◌, ◌≤◌, ◌<◌, leb, eqb, Option, None, Some}
 use Rattle.std.proofs.Math.Path.{refl, sym, ap, ap₂}
 use Rattle.std.proofs.Common.{◌∙◌, subst, div-add-mod', mul_assoc, add-mul, mod-lt, pow_pos, pow-add}
 use native.Mathlib.Omega.{arith}
@@ -11,13 +11,11 @@ use Rattle.defs.specs.Prefix.{first, leads, deeper, top}
 use Rattle.defs.specs.Entries.{Entry, entries_at, under, view}
 use Rattle.defs.specs.PrefixLaws.{cut, cut_whole, Whole, prefix_eq}
 use Rattle.defs.proofs.PrefixLaws.{leads_of}
-use Rattle.theory.specs.declared.Node.{Node}
-use Rattle.theory.specs.declared.Node.TheVariants as node
 use Rattle.theory.specs.Sides.{side_entries, child_in}
 use Rattle.theory.specs.Down.{next_bits, side_down}
-use Rattle.view.specs.declared.Found.{Found}
-use Rattle.view.specs.declared.Found.TheVariants as found
+use Rattle.view.specs.declared.RootPlace.{RootPlace}
 use Rattle.view.specs.Standing.{Sane, NodeIn, child_in_lem}
+use Rattle.theory.specs.Kinds.{Node}
 
 -- the first d bits of a prefix
 abbrev pub cut_to : Prefix → ℕ → Prefix
@@ -29,13 +27,17 @@ down_of w root o d = child_in w root o (next_bits d 5 root.key) (cut_to root (d 
 
 -- the node on the way to the root, k levels down, or none
 abbrev pub node_down : List ℕ → Prefix → ℕ → Node
-node_down w root zero = node.At 0
+node_down w root zero = Some 0
 node_down w root (suc k) = down_of w root (node_down w root k) (5 * k)
+
+-- the place of a root, or none
+abbrev pub Found : Type 0
+Found = Option RootPlace
 
 -- the place of a root, where its node is known
 abbrev pub found_at : Prefix → Node → Found
-found_at root node.Absent = found.Nothing
-found_at root (node.At i) = found.At i (cut_to root (root.len / 5 * 5)) (cut_to root root.len)
+found_at root None = None
+found_at root (Some i) = Some (record { node = i; prefix = cut_to root (root.len / 5 * 5); root = cut_to root root.len })
 
 -- the place of a root
 abbrev pub found_of : List ℕ → Prefix → Found
@@ -43,8 +45,8 @@ found_of w root = found_at root (node_down w root (root.len / 5))
 
 -- what lies under a place
 abbrev pub found_entries : List ℕ → Found → List Entry
-found_entries w found.Nothing = []
-found_entries w (found.At i p root) = under root (entries_at w (13 - p.len / 5) i p)
+found_entries w None = []
+found_entries w (Some f) = under f.root (entries_at w (13 - f.prefix.len / 5) f.node f.prefix)
 
 -- ---- first bits
 
@@ -109,38 +111,6 @@ module _ (w : List ℕ) (root : Prefix) where
   node_down_in s zero = s.formed.some
   node_down_in s (suc k) = down_in s (node_down w root k) (5 * k) (node_down_in s k)
 
--- ---- how the code goes down
-
-module _ (w : List ℕ) (root : Prefix) (depth : ℕ) where
-  -- the loop at depth d, with node o on the way to the root
-  pub record Going (d : ℕ) (o : Node) : Type 0 where
-    pub fives : d % 5 ≡ 0
-    pub within : d ≤ depth
-    pub here : o ≡ node_down w root (d / 5)
-
-  pub going_start : Going 0 (node.At 0)
-  going_start = record { fives = refl; within = omega arith; here = refl }
-
-  pub going_in : Sane w → (d : ℕ) (o : Node) → Going d o → NodeIn w o
-  going_in s d o g = subst (NodeIn w) (sym g.here) (node_down_in w root s (d / 5))
-
-  pub going_on : depth % 5 ≡ 0 → (d : ℕ) (o r : Node) → d < depth → Going d o → r ≡ down_of w root o d → Going (d + 5) r
-  going_on m d o r l g e =
-      let f : 5 * (d / 5) ≡ d = omega (arith, g.fives) in
-      let k : (d + 5) / 5 ≡ suc (d / 5) = omega arith in
-      record {
-        fives = omega (arith, g.fives);
-        within = omega (arith, g.fives, g.within);
-        here = e ∙ ap₂ (down_of w root) g.here (sym f) ∙ ap (node_down w root) (sym k);
-      }
-
-  pub going_end : (d : ℕ) (o : Node) → depth ≤ d → Going d o → o ≡ node_down w root (depth / 5)
-  going_end d o l g = let e : d ≡ depth = omega (arith, g.within) in g.here ∙ ap (λ (x : ℕ). node_down w root (x / 5)) e
-
--- the root's next 5 bits, as the code takes them
-pub next_bits_lem : (key d : ℕ) → d ≤ 59 → key / 2 ^ (59 - d) % 32 ≡ next_bits d 5 key
-next_bits_lem key d l = let e : 59 - d ≡ 64 - (d + 5) = omega arith in ap (λ (x : ℕ). key / 2 ^ x % 32) e
-
 -- the node of a root's place, as the code finds it
 pub found_node : (w : List ℕ) (root : Prefix) (r : Node) → r ≡ node_down w root (root.len / 5 * 5 / 5) → r ≡ node_down w root (root.len / 5)
 found_node w root r e = let k : root.len / 5 * 5 / 5 ≡ root.len / 5 = omega arith in e ∙ ap (node_down w root) k
@@ -165,7 +135,7 @@ view_found w root fits long =
   where
     go : (o : Node) → 5 * (root.len / 5) ≡ root.len / 5 * 5
         → side_entries w root (13 - root.len / 5) o (cut_to root (5 * (root.len / 5))) ≡ found_entries w (found_at root o)
-    go node.Absent e = refl
-    go (node.At i) e =
+    go None e = refl
+    go (Some i) e =
         let f : root.len / 5 * 5 / 5 ≡ root.len / 5 = omega arith in
         rw (e, f) (sym (under_clean root (entries_at w (13 - root.len / 5) i (cut_to root (root.len / 5 * 5)))))

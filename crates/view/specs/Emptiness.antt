@@ -1,5 +1,5 @@
 -- Emptiness: a node below which nothing lies, found by asking each child the same question.
-use Rattle.std.specs.Prelude.{◌≡◌, refl, Bool, true, false, ◌&&◌, List, [], ◌∷◌, ◌++◌, ℕ, zero, suc, ◌+◌, ◌-◌, ◌^◌, ◌≤◌, ◌<◌, eqb, ltb, get_or}
+use Rattle.std.specs.Prelude.{◌≡◌, refl, Bool, true, false, ◌&&◌, List, [], ◌∷◌, ◌++◌, ℕ, zero, suc, ◌+◌, ◌-◌, ◌^◌, ◌<◌, eqb, ltb, get_or}
 use Rattle.std.proofs.Common.{sym, ap, ap₂, ◌∙◌, subst, arith, add-one, mod-eq_of_lt, pow_pos, eqb-true, eq-eqb, ne_eqb, ltb-true, ltb-false}
 use Rattle.std.proofs.lemmas.Bool.{false≢true}
 use Rattle.defs.specs.declared.Prefix.{Prefix}
@@ -34,6 +34,10 @@ empty_at w (suc levels) node =
 
 pub both_true : {a b : Bool} → a ≡ true → b ≡ true → (a && b) ≡ true
 both_true e f = rw (e, f)
+
+-- a loop over the first numbers, one more
+pub below_next : (f : ℕ → Bool) (j : ℕ) → below_all f j ≡ true → f j ≡ true → below_all f (j + 1) ≡ true
+below_next f j k e = ap (below_all f) (add-one j) ∙ both_true e k
 
 nil_append : {B : Type 0} (a b : List B) → is_nil (a ++ b) ≡ (is_nil a && is_nil b)
 nil_append [] b = refl
@@ -174,6 +178,11 @@ pub record Reading (w : List ℕ) (levels node held first count : ℕ) : Type 0 
   pub first_is : first ≡ first_child w node
   pub count_is : count ≡ ones (child_of w node)
 
+-- the same from the code's steps
+pub read : {w : List ℕ} {levels node held first count kids : ℕ} → (levels ≡ 0 → ⊥) → held ≡ data_of w node → first ≡ first_child w node → count ≡ ones kids → kids ≡ child_of w node
+    → Reading w levels node held first count
+read d h f n k = record { deep = d; held_is = h; first_is = f; count_is = n ∙ ap ones k }
+
 pub below_fails : (f : ℕ → Bool) (n j : ℕ) → j < n → f j ≡ false → below_all f n ≡ false
 below_fails f n j l e = split (below_all f n) (λ t. not_both (below_at f n t j l) e) (λ t. t)
 
@@ -197,22 +206,11 @@ module _ (w : List ℕ) (levels node held first count : ℕ) (r : Reading w leve
       ∙ rw (eq-eqb (data_of w node) 0 (sym r.held_is ∙ z))
       (ap₂ (λ (a n : ℕ). below_all (λ j. empty_at w (levels - 1) (a + j)) n) (sym r.first_is) (sym r.count_is))
 
-  -- the loop: the first j children are empty
-  pub record Asking (j : ℕ) : Type 0 where
-    pub within : j ≤ count
-    pub so_far : below_all asks j ≡ true
-
-  pub asking_start : Asking 0
-  asking_start = record { within = omega arith; so_far = refl }
-
-  pub asking_on : (j : ℕ) → j < count → Asking j → asks j ≡ true → Asking (j + 1)
-  asking_on j l k e = record { within = omega arith; so_far = ap (below_all asks) (add-one j) ∙ both_true e k.so_far }
-
   pub asking_fails : (j : ℕ) → held ≡ 0 → j < count → asks j ≡ false → false ≡ empty_at w levels node
   asking_fails j z l e = sym (by_kids z ∙ below_fails asks count j l e)
 
-  pub asking_ends : (j : ℕ) → held ≡ 0 → count ≤ j → Asking j → true ≡ empty_at w levels node
-  asking_ends j z l k = let e : j ≡ count = omega (arith, k.within) in sym (by_kids z ∙ ap (below_all asks) (sym e) ∙ k.so_far)
+  pub asking_ends : held ≡ 0 → below_all asks count ≡ true → true ≡ empty_at w levels node
+  asking_ends z k = sym (by_kids z ∙ k)
 
   pub kid_there : Sane w → node < node_count w → (j : ℕ) → j < count → (first + j < node_count w) × (first + j < 2 ^ 32)
   kid_there s h j l =

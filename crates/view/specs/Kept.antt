@@ -1,5 +1,5 @@
 -- A node's data bitmap as far as a root leads, and that what it covers is what the walk's covers say.
-use Rattle.std.specs.Prelude.{◌≡◌, refl, Bool, true, false, ◌&&◌, ◌||◌, List, [], ◌∷◌, ◌++◌, ℕ, zero, suc, ◌+◌, ◌-◌, ◌*◌, ◌/◌, ◌%◌, ◌^◌, ◌≤◌, ◌<◌, eqb, length}
+use Rattle.std.specs.Prelude.{◌≡◌, refl, Bool, true, false, ◌&&◌, ◌||◌, List, [], ◌∷◌, ◌++◌, ℕ, zero, suc, ◌+◌, ◌-◌, ◌*◌, ◌/◌, ◌%◌, ◌^◌, ◌≤◌, ◌<◌, eqb, length, None, Some}
 use Rattle.std.proofs.Math.Path.{sym, ap}
 use Rattle.std.proofs.Common.{ap₂, ◌∙◌, subst, arith, mod-lt, mod-eq_of_lt, add-one, pow_mono, shr-shr}
 use Rattle.std.proofs.lemmas.Nat.{mod-pow-add}
@@ -18,12 +18,6 @@ use Rattle.bits.specs.Places.{place_len, place_value, place_prefix}
 use Rattle.bits.specs.PlaceLaws.{made, data_place_lem, place_len_below, place_prefix_lem}
 use Rattle.bits.specs.Worked.{one_shl}
 use Rattle.pool.specs.Sound.{data_small}
-use Rattle.theory.specs.declared.Node.{Node}
-use Rattle.theory.specs.declared.Node.TheVariants.{Absent, At}
-use Rattle.theory.specs.declared.Value.{Value}
-use Rattle.theory.specs.declared.Value.TheVariants.{Missing, Is}
-use Rattle.theory.specs.declared.Cover.{Cover}
-use Rattle.theory.specs.declared.Cover.TheVariants.{Nothing}
 use Rattle.theory.specs.Sides.{value_in}
 use Rattle.theory.specs.Steps.{place_bit, nearer, cover_bits, cover_on, is_cover}
 use Rattle.theory.specs.Todo.{word_lt}
@@ -31,10 +25,11 @@ use Rattle.theory.specs.Unwanted.{InNode}
 use Rattle.view.specs.Standing.{Sane}
 use Rattle.view.specs.Spreads.{one, word_on}
 use Rattle.view.specs.Covered.{covered_bits, covered_by, data_place_at, words_of, coverage_of, words_bit, coverage_bit, length_up, up_below}
+use Rattle.theory.specs.Kinds.{Cover, Node, Value}
 
 abbrev pub is_value : Value → Bool
-is_value Missing = false
-is_value (Is v) = true
+is_value None = false
+is_value (Some v) = true
 
 -- a side's node of prefix p has a value of the view at a data place
 abbrev pub held_by : List ℕ → Prefix → Node → Prefix → Place → Bool
@@ -57,29 +52,29 @@ kept_bit_lem w root o p n v h l = words_bit (held_by w root o p) (data_place n v
 -- ---- what it covers
 
 near : (x : Value) (n : ℕ) (c : Cover) → is_cover (nearer x n c) ≡ (is_value x || is_cover c)
-near Missing n c = refl
-near (Is v) n c = refl
+near None n c = refl
+near (Some v) n c = refl
 
 module _ (s : Side) (o : Node) (p : Prefix) where
   abbrev kept : ℕ
   kept = kept_of s.pool s.root o p
 
-  cover_bits_lem : (n v : ℕ) → n ≤ 5 → v < 2 ^ n → is_cover (cover_bits s o p Nothing n v) ≡ covered_bits kept n v
+  cover_bits_lem : (n v : ℕ) → n ≤ 5 → v < 2 ^ n → is_cover (cover_bits s o p None n v) ≡ covered_bits kept n v
   cover_bits_lem zero v h l = refl
   cover_bits_lem (suc n) v h l =
       let m : v / 2 < 2 ^ n = omega arith in
-      near (value_in s.pool s.root o n (v / 2) (deeper p n (v / 2))) (p.len + n) (cover_bits s o p Nothing n (v / 2))
+      near (value_in s.pool s.root o n (v / 2) (deeper p n (v / 2))) (p.len + n) (cover_bits s o p None n (v / 2))
       ∙ ap₂ ◌||◌ (sym (kept_bit_lem s.pool s.root o p n (v / 2) (omega arith) m)) (cover_bits_lem n (v / 2) (omega arith) m)
 
   -- FOR CALLERS: what the kept entries cover is what has a cover in the walk
-  pub kept_covers : (x : Place) → InNode x → is_cover (cover_on s o p Nothing x) ≡ covered_by kept x
+  pub kept_covers : (x : Place) → InNode x → is_cover (cover_on s o p None x) ≡ covered_by kept x
   kept_covers (data_place n v) h =
-      near (value_in s.pool s.root o n v (deeper p n v)) (p.len + n) (cover_bits s o p Nothing n v)
+      near (value_in s.pool s.root o n v (deeper p n v)) (p.len + n) (cover_bits s o p None n v)
       ∙ ap₂ ◌||◌ (sym (kept_bit_lem s.pool s.root o p n v h.0 h.1)) (cover_bits_lem n v (omega (arith, h.0)) h.1)
   kept_covers (child_place c) h = cover_bits_lem 5 c (omega arith) h
 
   -- FOR CALLERS: the same of the coverage, bit by bit
-  pub coverage_covers : (x : Place) → InNode x → place_bit (coverage_of kept).data (coverage_of kept).child x ≡ is_cover (cover_on s o p Nothing x)
+  pub coverage_covers : (x : Place) → InNode x → place_bit (coverage_of kept).data (coverage_of kept).child x ≡ is_cover (cover_on s o p None x)
   coverage_covers x h = coverage_bit kept x h ∙ sym (kept_covers x h)
 
 -- ---- how it is worked out
@@ -140,32 +135,32 @@ module _ (p : Prefix) (whole : Whole p) (short : p.len ≤ 60) (b : ℕ) (h : b 
       and_yes true = refl
       and_yes false = refl
 
-test_value : (a : Bool) (v : ℕ) → is_value (if a then Is v otherwise Missing) ≡ a
+test_value : (a : Bool) (v : ℕ) → is_value (if a then Some v otherwise None) ≡ a
 test_value true v = refl
 test_value false v = refl
 
-held_bit : (w : List ℕ) (root : Prefix) (i : ℕ) (p : Prefix) (b : ℕ) → b < 31 → held_by w root (At i) p (data_place_at b) ≡ kept_bit (data_of w i) root p b
+held_bit : (w : List ℕ) (root : Prefix) (i : ℕ) (p : Prefix) (b : ℕ) → b < 31 → held_by w root (Some i) p (data_place_at b) ≡ kept_bit (data_of w i) root p b
 held_bit w root i p b h =
     let e : data_bit (place_len (b + 1)) (place_value (b + 1)) ≡ b = data_place_lem (b + 1) (omega arith) (omega arith) ∙ omega arith in
     test_value _ _ ∙ ap (λ (x : ℕ). bit x (data_of w i) && leads root (deeper p (place_len (b + 1)) (place_value (b + 1)))) e
 
 module _ (w : List ℕ) (root : Prefix) (p : Prefix) (i held : ℕ) (e : held ≡ data_of w i) where
   -- place by place
-  pub kept_by_places : word_of (kept_bit held root p) (up_to 31) ≡ kept_of w root (At i) p
+  pub kept_by_places : word_of (kept_bit held root p) (up_to 31) ≡ kept_of w root (Some i) p
   unfolding words_of
   kept_by_places =
       ap (λ (x : ℕ). word_of (kept_bit x root p) (up_to 31)) e
-      ∙ sym (word_on (λ b. held_by w root (At i) p (data_place_at b)) (kept_bit (data_of w i) root p) (λ b h. held_bit w root i p b h) (up_below 31))
+      ∙ sym (word_on (λ b. held_by w root (Some i) p (data_place_at b)) (kept_bit (data_of w i) root p) (λ b h. held_bit w root i p b h) (up_below 31))
 
   -- the whole bitmap
-  pub kept_whole : Sane w → i < node_count w → Whole p → p.len ≤ 60 → leads root p ≡ true → held ≡ kept_of w root (At i) p
+  pub kept_whole : Sane w → i < node_count w → Whole p → p.len ≤ 60 → leads root p ≡ true → held ≡ kept_of w root (Some i) p
   kept_whole s h whole short l =
       let small : held < 2 ^ 31 = rw e (data_small s.width w s.formed i h) in
       sym (mod-eq_of_lt small) ∙ sym (bits_back held 31)
       ∙ word_on (λ b. bit b held) (kept_bit held root p) (λ b k. sym (inside p whole short b k held root l)) (up_below 31)
       ∙ kept_by_places
 
-pub kept_none : (w : List ℕ) (root p : Prefix) → 0 ≡ kept_of w root Absent p
+pub kept_none : (w : List ℕ) (root p : Prefix) → 0 ≡ kept_of w root None p
 unfolding words_of
 kept_none w root p = refl
 
@@ -177,26 +172,11 @@ module _ (held : ℕ) (root p : Prefix) where
       → leads root q ≡ kept_bit held root p b
   keep_test b h whole short k t q e = rw t (ap (leads root) (e ∙ bit_prefix p whole short b h k))
 
-  -- the loop: the word of the first b data bits
-  pub record Keeping (kept b : ℕ) : Type 0 where
-    pub within : b ≤ 31
-    pub so_far : kept ≡ word_of (kept_bit held root p) (up_to b)
-
-  pub keeping_start : Keeping 0 0
-  keeping_start = record { within = omega arith; so_far = refl }
-
-  pub keeping_small : (kept b : ℕ) → Keeping kept b → kept < 2 ^ b
-  keeping_small kept b k = rw k.so_far (word_below (kept_bit held root p) b)
-
-  pub keeping_on : (kept b : ℕ) → b < 31 → Keeping kept b → (t : Bool) → t ≡ kept_bit held root p b → (r : ℕ) → r ≡ kept + one t * 2 ^ b → Keeping r (b + 1)
-  keeping_on kept b h k t et r er =
-      record {
-        within = omega arith;
-        so_far = er ∙ ap₂ (λ (x : ℕ) (y : Bool). x + one y * 2 ^ b) k.so_far et ∙ sym (word_more (kept_bit held root p) b) ∙ ap (λ (x : ℕ). word_of (kept_bit held root p) (up_to x)) (sym (add-one b));
-      }
-
-  pub keeping_end : (kept b : ℕ) → 31 ≤ b → Keeping kept b → kept ≡ word_of (kept_bit held root p) (up_to 31)
-  keeping_end kept b h k = let e : b ≡ 31 = omega (arith, k.within) in k.so_far ∙ ap (λ (x : ℕ). word_of (kept_bit held root p) (up_to x)) e
+  -- the loop: one bit more
+  pub keeping_on : (kept b : ℕ) → kept ≡ word_of (kept_bit held root p) (up_to b) → (t : Bool) → t ≡ kept_bit held root p b → (r : ℕ) → r ≡ kept + one t * 2 ^ b
+      → r ≡ word_of (kept_bit held root p) (up_to (b + 1))
+  keeping_on kept b k t et r er =
+      er ∙ ap₂ (λ (x : ℕ) (y : Bool). x + one y * 2 ^ b) k et ∙ sym (word_more (kept_bit held root p) b) ∙ ap (λ (x : ℕ). word_of (kept_bit held root p) (up_to x)) (sym (add-one b))
 
 -- a bit more on top of a word
 module _ (word b : ℕ) (h : b < 32) (small : word < 2 ^ b) where

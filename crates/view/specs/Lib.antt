@@ -1,5 +1,6 @@
 -- Where one side of a walk stands, and what may be asked of it.
 pub mod Standing
+pub mod Seen
 -- The numbers of a node's places, and one word for all of them.
 pub mod Numbers
 pub mod Spreads

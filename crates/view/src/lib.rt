@@ -1,7 +1,7 @@
 // One side of a walk at a node: its bitmaps, its values and children, the nearest entry above a place, and the way down to a root.
 #![tactic(auto)]
 
-ghost use Rattle.std.specs.Prelude.{◌≡◌, true, false, ◌+◌, ◌*◌, ◌/◌, ◌%◌, ◌^◌, ◌≤◌, ◌<◌, length};
+ghost use Rattle.std.specs.Prelude.{◌≡◌, true, false, ◌+◌, ◌*◌, ◌/◌, ◌%◌, ◌^◌, ◌≤◌, ◌<◌, Some, length};
 ghost use Rattle.defs.specs.Basics.{up_to};
 ghost use Rattle.defs.specs.Pool.{node_count};
 ghost use Rattle.defs.specs.Prefix.{deeper};
@@ -11,17 +11,22 @@ ghost use Rattle.defs.specs.PrefixLaws.{Whole};
 ghost use Rattle.bits.specs.Places.{place_len, place_value};
 ghost use Rattle.theory.specs.Sides.{on_path, child_in, value_in};
 ghost use Rattle.theory.specs.Steps.{place_bit, cover_bits};
-ghost use Rattle.view.specs.Standing.{Sane, NodeIn, bitmaps_of, value_on};
+ghost use Rattle.view.specs.Standing.{NodeIn, bitmaps_of, value_on};
 ghost use Rattle.view.specs.Numbers.{number_of, place_at};
 ghost use Rattle.view.specs.Spreads.{one, alone_of};
 ghost use Rattle.view.specs.Descent.{cut_to, down_of, node_down, found_of};
 ghost use Rattle.view.specs.Covered.{words_of, coverage_of, join_of, bytes_at};
 ghost use Rattle.view.specs.Kept.{kept_bit, kept_of};
 ghost use Rattle.view.specs.Emptiness.{is_nil, empty_at};
+ghost use Rattle.view.specs.Seen.{seen};
 ghost use Rattle.view.specs.EmptyViews.{Ending, empty_kid, empty_under};
 
 use defs::Prefix;
-use theory::{Cover, Node, Value};
+use theory::{Above, Cover, Node, Value};
+
+mod side;
+
+pub use side::Side;
 
 // The data bitmap and the child bitmap of a node.
 #[derive(Clone, Copy)]
@@ -47,8 +52,8 @@ pub fn bitmaps_at(words: &[u32], node: Node) -> Bitmaps
     ensures { result ≡ bitmaps_of words.now node }
 {
     match node {
-        Node::Absent => Bitmaps { data: 0, child: 0 },
-        Node::At(i) => Bitmaps {
+        None => Bitmaps { data: 0, child: 0 },
+        Some(i) => Bitmaps {
             data: pool::data_bits(words, i as usize),
             child: pool::child_bits(words, i as usize),
         },
@@ -80,102 +85,11 @@ pub fn spread(b: Bitmaps) -> u64
     word
 }
 
-// The value of data bit b of node i, where it is set and the root leads the place's prefix q.
-fn held_value(words: &[u32], root: Prefix, i: usize, b: u32, q: Prefix) -> Value
-    requires { Sane words.now × (i < node_count words.now) × (b < 31) }
-    ensures { result ≡ value_on words.now root i b q }
-{
-    let held = pool::data_bits(words, i);
-    if !bits::bit(held, b) {
-        return Value::Missing;
-    }
-    if !bits::leads(root, q) {
-        return Value::Missing;
-    }
-    Value::Is(pool::first_value(words, i) + bits::rank(held, b))
-}
-
-// The value at place h of a side's node, of prefix q: values are counted by the data bits below the place's own.
-pub fn value_at(words: &[u32], root: Prefix, node: Node, h: u32, q: Prefix) -> Value
-    requires { Sane words.now × NodeIn words.now node × (0 < h) × (h < 32) }
-    ensures { result ≡ value_in words.now root node (place_len h) (place_value h) q }
-{
-    match node {
-        Node::Absent => Value::Missing,
-        Node::At(i) => held_value(words, root, i as usize, h - 1, q),
-    }
-}
-
 // One of two prefixes leads the other.
 fn on_path(root: Prefix, q: Prefix) -> bool
     ensures { result ≡ on_path root q }
 {
-    if bits::leads(root, q) {
-        return true;
-    }
-    bits::leads(q, root)
-}
-
-// Child c of node i, where its bit is set and its prefix q lies on one path with the root.
-fn held_child(words: &[u32], root: Prefix, i: usize, c: u32, q: Prefix) -> Node
-    requires { Sane words.now × (i < node_count words.now) × (c < 32) }
-    ensures { result ≡ child_in words.now root (Node.At i) c q }
-{
-    let held = pool::child_bits(words, i);
-    if !bits::bit(held, c) {
-        return Node::Absent;
-    }
-    if !on_path(root, q) {
-        return Node::Absent;
-    }
-    Node::At(pool::first_child(words, i) + bits::rank(held, c))
-}
-
-// Child c of a side's node, of prefix q. A child that cannot hold anything of the view is left out.
-pub fn child_at(words: &[u32], root: Prefix, node: Node, c: u32, q: Prefix) -> Node
-    requires { Sane words.now × NodeIn words.now node × (c < 32) }
-    ensures { result ≡ child_in words.now root node c q }
-{
-    match node {
-        Node::Absent => Node::Absent,
-        Node::At(i) => held_child(words, root, i as usize, c, q),
-    }
-}
-
-// The nearest entry above place h of node i, of prefix p, or else what stands above the node. Only set bits are looked at.
-fn climbed(words: &[u32], root: Prefix, i: u32, p: Prefix, above: Cover, h: u32) -> Cover
-    requires { Sane words.now × (i < node_count words.now) × (0 < h) × (h < 64) × Whole p × (p.len ≤ 60) }
-    ensures { result ≡ cover_bits (record { pool = words.now; root = root }) (Node.At i) p above (place_len h) (place_value h) }
-{
-    let held = pool::data_bits(words, i as usize);
-    let mut up = h;
-    while 1 < up {
-        up = up / 2;
-        if bits::bit(held, up - 1) {
-            let q = bits::place_prefix(p, up);
-            match held_value(words, root, i as usize, up - 1, q) {
-                Value::Missing => {}
-                Value::Is(value) => {
-                    return Cover::Of {
-                        len: p.len + bits::place_len(up),
-                        value,
-                    };
-                }
-            }
-        }
-    }
-    above
-}
-
-// The nearest entry of a side above place h of its node of prefix p, or else what stands above the node.
-pub fn cover_at(words: &[u32], root: Prefix, node: Node, p: Prefix, above: Cover, h: u32) -> Cover
-    requires { Sane words.now × NodeIn words.now node × (0 < h) × (h < 64) × Whole p × (p.len ≤ 60) }
-    ensures { result ≡ cover_bits (record { pool = words.now; root = root }) node p above (place_len h) (place_value h) }
-{
-    match node {
-        Node::Absent => above,
-        Node::At(i) => climbed(words, root, i, p, above, h),
-    }
+    bits::leads(root, q) || bits::leads(q, root)
 }
 
 // The first bits of a prefix.
@@ -188,53 +102,236 @@ pub fn shortened(p: Prefix, len: u32) -> Prefix
     }
 }
 
-// The child on the way to the root, from the root's node at depth d: the root's next 5 bits are its place.
-fn next_down(words: &[u32], root: Prefix, node: Node, d: u32) -> Node
-    requires { Sane words.now × NodeIn words.now node × (d ≤ 59) }
-    ensures { result ≡ down_of words.now root node d }
+// Data bit b of a node of prefix p is set, and the root leads its place.
+fn keeps(held: u32, root: Prefix, p: Prefix, b: u32) -> bool
+    requires { (b < 31) × Whole p × (p.len ≤ 60) }
+    ensures { result ≡ kept_bit held root p b }
 {
-    let c = ((root.key >> (59 - d)) % 32) as u32;
-    child_at(words, root, node, c, shortened(root, d + 5))
+    bits::bit(held, b) && bits::leads(root, bits::place_prefix(p, b + 1))
 }
 
-// The node on the way to the root at a depth, or none: one level down at a time.
-pub fn at_depth(words: &[u32], root: Prefix, depth: u32) -> Node
-    requires { Sane words.now × (depth % 5 ≡ 0) × (depth ≤ 60) }
-    ensures { result ≡ node_down words.now root (depth / 5) }
+// A word with bit b set where that is wanted.
+pub fn with_bit(word: u32, b: u32, on: bool) -> u32
+    requires { (b < 32) × (word < 2 ^ b) }
+    ensures { result ≡ word + one on * 2 ^ b }
 {
-    let mut node = Node::At(0);
-    let mut d: u32 = 0;
-    while d < depth {
-        node = next_down(words, root, node, d);
-        d += 5;
+    if on { word + (1 << b) } else { word }
+}
+
+// The set data bits of a node of prefix p whose places the root leads, place by place.
+fn kept_places(held: u32, root: Prefix, p: Prefix) -> u32
+    requires { Whole p × (p.len ≤ 60) }
+    ensures { result ≡ word_of (kept_bit held root p) (up_to 31) }
+{
+    let mut kept: u32 = 0;
+    for b in 0..31 {
+        kept = with_bit(kept, b, keeps(held, root, p, b));
     }
-    node
+    kept
 }
 
 // The place of a root: its node, that node's prefix, and the root without stray bits.
 #[derive(Clone, Copy)]
-pub enum Found {
-    Nothing,
-    At {
-        node: u32,
-        prefix: Prefix,
-        root: Prefix,
-    },
+struct RootPlace {
+    node: u32,
+    prefix: Prefix,
+    root: Prefix,
 }
 
-// The place of a root, at depth len / 5 * 5; a root of length 64 lies in a node at depth 60.
-fn find(words: &[u32], root: Prefix) -> Found
-    requires { Sane words.now × (root.len ≤ 64) }
-    ensures { result ≡ found_of words.now root }
-{
-    let depth = root.len / 5 * 5;
-    match at_depth(words, root, depth) {
-        Node::Absent => Found::Nothing,
-        Node::At(i) => Found::At {
-            node: i,
-            prefix: shortened(root, depth),
-            root: shortened(root, root.len),
-        },
+impl<'a> Side<'a> {
+    // The value of data bit b of node i, where it is set and the root leads the place's prefix q.
+    fn held_value(self, i: usize, b: u32, q: Prefix) -> Value
+        requires { (i < node_count self.words.now) × (b < 31) }
+        ensures { result ≡ value_on self.entry.words.now self.entry.root i b q }
+    {
+        let held = pool::data_bits(self.words, i);
+        if !bits::bit(held, b) {
+            return None;
+        }
+        if !bits::leads(self.root, q) {
+            return None;
+        }
+        Some(pool::first_value(self.words, i) + bits::rank(held, b))
+    }
+
+    // The value at place h of a side's node, of prefix q: values are counted by the data bits below the place's own.
+    pub fn value_at(self, node: Node, h: u32, q: Prefix) -> Value
+        requires { NodeIn self.words.now node × (0 < h) × (h < 32) }
+        ensures { result ≡ value_in self.entry.words.now self.entry.root node (place_len h) (place_value h) q }
+    {
+        self.held_value(node? as usize, h - 1, q)
+    }
+
+    // Child c of node i, where its bit is set and its prefix q lies on one path with the root.
+    fn held_child(self, i: usize, c: u32, q: Prefix) -> Node
+        requires { (i < node_count self.words.now) × (c < 32) }
+        ensures { result ≡ child_in self.entry.words.now self.entry.root (Some i) c q }
+    {
+        let held = pool::child_bits(self.words, i);
+        if !bits::bit(held, c) {
+            return None;
+        }
+        if !on_path(self.root, q) {
+            return None;
+        }
+        Some(pool::first_child(self.words, i) + bits::rank(held, c))
+    }
+
+    // Child c of a side's node, of prefix q. A child that cannot hold anything of the view is left out.
+    pub fn child_at(self, node: Node, c: u32, q: Prefix) -> Node
+        requires { NodeIn self.words.now node × (c < 32) }
+        ensures { result ≡ child_in self.entry.words.now self.entry.root node c q }
+    {
+        self.held_child(node? as usize, c, q)
+    }
+
+    // The nearest entry above place h of node i, of prefix p, or else what stands above the node. Only set bits are looked at.
+    fn climbed(self, i: u32, p: Prefix, above: Cover, h: u32) -> Cover
+        requires { (i < node_count self.words.now) × (0 < h) × (h < 64) × Whole p × (p.len ≤ 60) }
+        ensures { result ≡ cover_bits (seen self.entry) (Some i) p above (place_len h) (place_value h) }
+    {
+        let held = pool::data_bits(self.words, i as usize);
+        let mut up = h;
+        while 1 < up {
+            up = up / 2;
+            if bits::bit(held, up - 1) {
+                let q = bits::place_prefix(p, up);
+                if let Some(value) = self.held_value(i as usize, up - 1, q) {
+                    return Some(Above {
+                        len: p.len + bits::place_len(up),
+                        value,
+                    });
+                }
+            }
+        }
+        above
+    }
+
+    // The nearest entry of a side above place h of its node of prefix p, or else what stands above the node.
+    pub fn cover_at(self, node: Node, p: Prefix, above: Cover, h: u32) -> Cover
+        requires { NodeIn self.words.now node × (0 < h) × (h < 64) × Whole p × (p.len ≤ 60) }
+        ensures { result ≡ cover_bits (seen self.entry) node p above (place_len h) (place_value h) }
+    {
+        match node {
+            None => above,
+            Some(i) => self.climbed(i, p, above, h),
+        }
+    }
+
+    // The child on the way to the root, from the root's node at depth d: the root's next 5 bits are its place.
+    fn next_down(self, node: Node, d: u32) -> Node
+        requires { NodeIn self.words.now node × (d ≤ 59) }
+        ensures { result ≡ down_of self.entry.words.now self.entry.root node d }
+    {
+        let c = bits::next_five(self.root.key, d);
+        self.child_at(node, c, shortened(self.root, d + 5))
+    }
+
+    // The node on the way to the root at a depth, or none: one level down at a time.
+    pub fn at_depth(self, depth: u32) -> Node
+        requires { (depth % 5 ≡ 0) × (depth ≤ 60) }
+        ensures { result ≡ node_down self.entry.words.now self.entry.root (depth / 5) }
+    {
+        let mut node = Some(0);
+        for k in 0..depth / 5 {
+            node = self.next_down(node, 5 * k);
+        }
+        node
+    }
+
+    // The place of a root, at depth len / 5 * 5; a root of length 64 lies in a node at depth 60.
+    fn find(self) -> Option<RootPlace>
+        requires { self.root.len ≤ 64 }
+        ensures { result ≡ found_of self.entry.words.now self.entry.root }
+    {
+        let depth = self.root.len / 5 * 5;
+        let node = self.at_depth(depth)?;
+        Some(RootPlace {
+            node,
+            prefix: shortened(self.root, depth),
+            root: shortened(self.root, self.root.len),
+        })
+    }
+
+    // The data bitmap of a side's node of prefix p, as far as the root leads: all of it below the root, and place by place in the root's own node.
+    pub fn kept_data(self, node: Node, p: Prefix) -> u32
+        requires { NodeIn self.words.now node × Whole p × (p.len ≤ 60) }
+        ensures { result ≡ kept_of self.entry.words.now self.entry.root node p }
+    {
+        let Some(i) = node else {
+            return 0;
+        };
+        let held = pool::data_bits(self.words, i as usize);
+        if bits::leads(self.root, p) {
+            return held;
+        }
+        kept_places(held, self.root, p)
+    }
+
+    // Nothing lies in a node or below it, so many levels deep: it has no value, and each of its children is asked the same with one level less.
+    fn node_is_empty(self, node: u32, levels: u32) -> bool
+        requires { node < node_count self.words.now }
+        ensures { result ≡ empty_at self.entry.words.now levels node }
+    {
+        if levels == 0 {
+            return true;
+        }
+        if pool::data_bits(self.words, node as usize) != 0 {
+            return false;
+        }
+        let first = pool::first_child(self.words, node as usize);
+        let count = bits::ones(pool::child_bits(self.words, node as usize));
+        for j in 0..count {
+            if !self.node_is_empty(first + j, levels - 1) {
+                return false;
+            }
+        }
+        true
+    }
+
+    // Child c of a root's node holds nothing of the view. With no level left below, there is no child to ask.
+    fn kid_is_empty(self, node: u32, p: Prefix, c: u32, levels: u32) -> bool
+        requires { (node < node_count self.words.now) × Ending self.root p levels × (c < 32) }
+        ensures { result ≡ empty_kid self.entry.words.now levels (child_in self.entry.words.now self.entry.root (Some node) c (deeper p 5 c)) }
+    {
+        if levels == 0 {
+            return true;
+        }
+        match self.child_at(Some(node), c, bits::place_prefix(p, 32 + c)) {
+            None => true,
+            Some(k) => self.node_is_empty(k, levels),
+        }
+    }
+
+    // Nothing of the view at a root lies in the root's node or below it: no value is kept, and no child holds anything.
+    fn place_is_empty(self, node: u32, p: Prefix, levels: u32) -> bool
+        requires { (node < node_count self.words.now) × Ending self.root p levels }
+        ensures { result ≡ empty_under self.entry.words.now self.entry.root levels node p }
+    {
+        if self.kept_data(Some(node), p) != 0 {
+            return false;
+        }
+        for c in 0..32 {
+            if !self.kid_is_empty(node, p, c, levels) {
+                return false;
+            }
+        }
+        true
+    }
+
+    // The view at a root is empty.
+    pub fn view_is_empty(self) -> bool
+        requires { self.root.len ≤ 64 }
+        ensures { result ≡ is_nil (view self.entry.words.now self.entry.root) }
+    {
+        let Some(place) = self.find() else {
+            return true;
+        };
+        let clean = Side {
+            words: self.words,
+            root: place.root,
+        };
+        clean.place_is_empty(place.node, place.prefix, 12 - place.prefix.len / 5)
     }
 }
 
@@ -320,134 +417,5 @@ impl Coverage {
             left -= 1 << z;
         }
         covered
-    }
-}
-
-// Data bit b of a node of prefix p is set, and the root leads its place.
-fn keeps(held: u32, root: Prefix, p: Prefix, b: u32) -> bool
-    requires { (b < 31) × Whole p × (p.len ≤ 60) }
-    ensures { result ≡ kept_bit held root p b }
-{
-    if !bits::bit(held, b) {
-        return false;
-    }
-    bits::leads(root, bits::place_prefix(p, b + 1))
-}
-
-// A word with bit b set where that is wanted.
-pub fn with_bit(word: u32, b: u32, on: bool) -> u32
-    requires { (b < 32) × (word < 2 ^ b) }
-    ensures { result ≡ word + one on * 2 ^ b }
-{
-    if on {
-        return word + (1 << b);
-    }
-    word
-}
-
-// The set data bits of a node of prefix p whose places the root leads, place by place.
-fn kept_places(held: u32, root: Prefix, p: Prefix) -> u32
-    requires { Whole p × (p.len ≤ 60) }
-    ensures { result ≡ word_of (kept_bit held root p) (up_to 31) }
-{
-    let mut kept: u32 = 0;
-    let mut b: u32 = 0;
-    while b < 31 {
-        kept = with_bit(kept, b, keeps(held, root, p, b));
-        b += 1;
-    }
-    kept
-}
-
-// The data bitmap of a side's node of prefix p, as far as the root leads: all of it below the root, and place by place in the root's own node.
-pub fn kept_data(words: &[u32], root: Prefix, node: Node, p: Prefix) -> u32
-    requires { Sane words.now × NodeIn words.now node × Whole p × (p.len ≤ 60) }
-    ensures { result ≡ kept_of words.now root node p }
-{
-    match node {
-        Node::Absent => 0,
-        Node::At(i) => {
-            let held = pool::data_bits(words, i as usize);
-            if bits::leads(root, p) {
-                return held;
-            }
-            kept_places(held, root, p)
-        }
-    }
-}
-
-// Nothing lies in a node or below it, so many levels deep: it has no value, and each of its children is asked the same with one level less.
-fn is_empty(words: &[u32], node: u32, levels: u32) -> bool
-    requires { Sane words.now × (node < node_count words.now) }
-    ensures { result ≡ empty_at words.now levels node }
-{
-    if levels == 0 {
-        return true;
-    }
-    if pool::data_bits(words, node as usize) != 0 {
-        return false;
-    }
-    let first = pool::first_child(words, node as usize);
-    let count = bits::ones(pool::child_bits(words, node as usize));
-    let mut j: u32 = 0;
-    while j < count {
-        if !is_empty(words, first + j, levels - 1) {
-            return false;
-        }
-        j += 1;
-    }
-    true
-}
-
-// Child c of a root's node holds nothing of the view. With no level left below, there is no child to ask.
-fn kid_is_empty(words: &[u32], root: Prefix, node: u32, p: Prefix, c: u32, levels: u32) -> bool
-    requires { Sane words.now × (node < node_count words.now) × Ending root p levels × (c < 32) }
-    ensures { result ≡ empty_kid words.now levels (child_in words.now root (Node.At node) c (deeper p 5 c)) }
-{
-    if levels == 0 {
-        return true;
-    }
-    match child_at(
-        words,
-        root,
-        Node::At(node),
-        c,
-        bits::place_prefix(p, 32 + c),
-    ) {
-        Node::Absent => true,
-        Node::At(k) => is_empty(words, k, levels),
-    }
-}
-
-// Nothing of the view at a root lies in the root's node or below it: no value is kept, and no child holds anything.
-fn place_is_empty(words: &[u32], root: Prefix, node: u32, p: Prefix, levels: u32) -> bool
-    requires { Sane words.now × (node < node_count words.now) × Ending root p levels }
-    ensures { result ≡ empty_under words.now root levels node p }
-{
-    if kept_data(words, root, Node::At(node), p) != 0 {
-        return false;
-    }
-    let mut c: u32 = 0;
-    while c < 32 {
-        if !kid_is_empty(words, root, node, p, c, levels) {
-            return false;
-        }
-        c += 1;
-    }
-    true
-}
-
-// The view at a root is empty.
-pub fn view_is_empty(words: &[u32], root: Prefix) -> bool
-    requires { Sane words.now × (root.len ≤ 64) }
-    ensures { result ≡ is_nil (view words.now root) }
-{
-    match find(words, root) {
-        Found::Nothing => true,
-        Found::At {
-            node,
-            prefix,
-            root: clean,
-        } => place_is_empty(words, clean, node, prefix, 12 - prefix.len / 5),
     }
 }

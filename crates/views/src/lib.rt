@@ -1,13 +1,14 @@
-// A view as one value: the pool's words, the width, and the root's key and length. Whoever holds the fields can make one, so each call over views takes them apart and makes the plain call, which checks everything again.
+// A view as one value: the pool's words, the width, and the root's key and length. Whoever holds the fields can make one, so each call over views takes them apart and makes the call of sets or tidy, which checks everything again.
 #![tactic(auto)]
 
 ghost use Rattle.std.specs.Prelude.{◌≡◌};
-ghost use Rattle.defs.specs.declared.Operation.TheVariants.{Union, Intersection, Difference, CoveringDifference, CoveringUnion};
+ghost use Rattle.defs.specs.declared.Operation.TheVariants.{CoveringDifference};
 ghost use Rattle.defs.specs.Outcome.{list_outcome, equal_outcome, tidy_outcome};
+ghost use Rattle.defs.specs.Refusals.{answer_of, answer_whether};
 ghost use Rattle.lhamtrovi.specs.Plain.{side};
-ghost use Rattle.views.specs.Views.{side_of, open_outcome, opened, view_of};
+ghost use Rattle.views.specs.Views.{side_of, opened, opened_by, view_of};
 
-use defs::{Answer, Prefix};
+use defs::{Operation, Prefix, Refusal};
 
 // A view: pool words, width, and the root's key and length.
 #[derive(Clone, Copy)]
@@ -18,152 +19,85 @@ pub struct View<'a> {
     pub len: u32,
 }
 
-// What opening gives: a refusal number or 0 and the number beside it, and the view's fields.
+// Why a view was not opened, with the fields that were given: they are a view all the same.
 #[derive(Clone, Copy)]
-pub struct Opened<'a> {
-    pub number: u32,
-    pub beside: u64,
-    pub words: &'a [u32],
-    pub width: u32,
-    pub key: u64,
-    pub len: u32,
+pub struct NotOpened<'a> {
+    pub refusal: Refusal,
+    pub view: View<'a>,
 }
 
-// The first of the refusals 1, 2 and 4, or 0. The root's key plays no part.
-fn refusal(width: u32, words: &[u32], len: u32) -> Answer
-    ensures { result ≡ open_outcome width (side words.now 0 len) }
+// The view that was opened, or was not. Its fields are what was given, whatever the answer.
+pub fn view_of<'a>(opened: Result<View<'a>, NotOpened<'a>>) -> View<'a>
+    ensures { result ≡ view_of (opened_by opened.entry) }
 {
-    let root = Prefix { key: 0, len };
-    tidy::refusal(width, words, root)
-}
-
-// Checks the width, the words and the root, and holds them together.
-pub fn open<'a>(width: u32, words: &'a [u32], key: u64, len: u32) -> Opened<'a>
-    ensures { result ≡ opened width words.entry key len }
-{
-    let a = refusal(width, words, len);
-    Opened {
-        number: a.number,
-        beside: a.beside,
-        words,
-        width,
-        key,
-        len,
+    match opened {
+        Ok(view) => view,
+        Err(error) => error.view,
     }
 }
 
-// The view that was opened. Its fields are what was given, whatever the answer.
-pub fn view_of<'a>(o: Opened<'a>) -> View<'a>
-    ensures { result ≡ view_of o.entry }
-{
-    View {
-        words: o.words,
-        width: o.width,
-        key: o.key,
-        len: o.len,
+impl<'a> View<'a> {
+    // Checks the width, the words and the root, and holds them together: the first of the refusals 1, 2 and 4, or the view.
+    pub fn open(width: u32, words: &'a [u32], key: u64, len: u32) -> Result<View<'a>, NotOpened<'a>>
+        ensures { opened_by result ≡ opened width words.entry key len }
+    {
+        let view = View {
+            words,
+            width,
+            key,
+            len,
+        };
+        match tidy::checked(width, words, view.root()) {
+            Ok(_) => Ok(view),
+            Err(refusal) => Err(NotOpened { refusal, view }),
+        }
     }
-}
 
-// D1: the prefixes of either view. Here and below, a call on two views is made at the left one's width.
-pub fn union<'a, 'b>(left: View<'a>, right: View<'b>, out: &mut [u64]) -> Answer
-    ensures { record { answer = result; output = out.new } ≡ list_outcome Union left.entry.width (side_of left.entry) (side_of right.entry) out.old }
-{
-    lhamtrovi::lhamtrovi_union(
-        left.width,
-        left.words,
-        left.key,
-        left.len,
-        right.words,
-        right.key,
-        right.len,
-        out,
-    )
-}
+    // The root.
+    fn root(self) -> Prefix
+        ensures { result ≡ (side_of self.entry).root }
+    {
+        Prefix {
+            key: self.key,
+            len: self.len,
+        }
+    }
 
-// D2: the prefixes of both views.
-pub fn intersection<'a, 'b>(left: View<'a>, right: View<'b>, out: &mut [u64]) -> Answer
-    ensures { record { answer = result; output = out.new } ≡ list_outcome Intersection left.entry.width (side_of left.entry) (side_of right.entry) out.old }
-{
-    lhamtrovi::lhamtrovi_intersection(
-        left.width,
-        left.words,
-        left.key,
-        left.len,
-        right.words,
-        right.key,
-        right.len,
-        out,
-    )
-}
+    // The list of an operation over this view on the left and another on the right: D1 to D5. Here and below, a call on two views is made at
+    // the left one's width.
+    pub fn list<'b>(self, op: Operation, right: View<'b>, out: &mut [u64]) -> Result<u64, Refusal>
+        ensures { record { answer = answer_of result; output = out.new } ≡ list_outcome op self.entry.width (side_of self.entry) (side_of right.entry) out.old }
+    {
+        sets::list(
+            op,
+            self.width,
+            self.words,
+            self.root(),
+            right.words,
+            right.root(),
+            out,
+        )
+    }
 
-// D3: the prefixes of the left view that are not in the right one.
-pub fn difference<'a, 'b>(left: View<'a>, right: View<'b>, out: &mut [u64]) -> Answer
-    ensures { record { answer = result; output = out.new } ≡ list_outcome Difference left.entry.width (side_of left.entry) (side_of right.entry) out.old }
-{
-    lhamtrovi::lhamtrovi_difference(
-        left.width,
-        left.words,
-        left.key,
-        left.len,
-        right.words,
-        right.key,
-        right.len,
-        out,
-    )
-}
+    // D6: whether the two views have the same prefixes.
+    pub fn equal_keys<'b>(self, right: View<'b>) -> Result<bool, Refusal>
+        ensures { answer_whether result ≡ equal_outcome self.entry.width (side_of self.entry) (side_of right.entry) }
+    {
+        sets::equality::equal_keys(
+            self.width,
+            self.words,
+            self.root(),
+            right.words,
+            right.root(),
+        )
+    }
 
-// D4: the prefixes of the left view that no prefix of the right one equals or leads.
-pub fn covering_difference<'a, 'b>(left: View<'a>, right: View<'b>, out: &mut [u64]) -> Answer
-    ensures { record { answer = result; output = out.new } ≡ list_outcome CoveringDifference left.entry.width (side_of left.entry) (side_of right.entry) out.old }
-{
-    lhamtrovi::lhamtrovi_covering_difference(
-        left.width,
-        left.words,
-        left.key,
-        left.len,
-        right.words,
-        right.key,
-        right.len,
-        out,
-    )
-}
-
-// D5: the prefixes of either view, each with its cover in the other.
-pub fn covering_union<'a, 'b>(left: View<'a>, right: View<'b>, out: &mut [u64]) -> Answer
-    ensures { record { answer = result; output = out.new } ≡ list_outcome CoveringUnion left.entry.width (side_of left.entry) (side_of right.entry) out.old }
-{
-    lhamtrovi::lhamtrovi_covering_union(
-        left.width,
-        left.words,
-        left.key,
-        left.len,
-        right.words,
-        right.key,
-        right.len,
-        out,
-    )
-}
-
-// D6: whether the two views have the same prefixes.
-pub fn equal_keys<'a, 'b>(left: View<'a>, right: View<'b>) -> Answer
-    ensures { result ≡ equal_outcome left.entry.width (side_of left.entry) (side_of right.entry) }
-{
-    lhamtrovi::lhamtrovi_equal_keys(
-        left.width,
-        left.words,
-        left.key,
-        left.len,
-        right.words,
-        right.key,
-        right.len,
-    )
-}
-
-// D7: the tidy pool of a view, and the old value index of each new one.
-pub fn tidy<'a>(view: View<'a>, out: &mut [u32], values: &mut [u32]) -> Answer
-    ensures { record { answer = result; output = out.new; values = values.new } ≡ tidy_outcome view.entry.width (side_of view.entry) out.old values.old }
-{
-    lhamtrovi::lhamtrovi_tidy(view.width, view.words, view.key, view.len, out, values)
+    // D7: the tidy pool of a view, and the old value index of each new one.
+    pub fn tidy(self, out: &mut [u32], values: &mut [u32]) -> Result<u64, Refusal>
+        ensures { record { answer = answer_of result; output = out.new; values = values.new } ≡ tidy_outcome self.entry.width (side_of self.entry) out.old values.old }
+    {
+        tidy::tidy(self.width, self.words, self.root(), out, values)
+    }
 }
 
 // The covering difference of two views that are made here, for callers that hold none.
@@ -176,8 +110,8 @@ pub fn covering_difference_of(
     right_key: u64,
     right_len: u32,
     out: &mut [u64],
-) -> Answer
-    ensures { record { answer = result; output = out.new } ≡ list_outcome CoveringDifference width (side left.now left_key left_len) (side right.now right_key right_len) out.old }
+) -> Result<u64, Refusal>
+    ensures { record { answer = answer_of result; output = out.new } ≡ list_outcome CoveringDifference width (side left.now left_key left_len) (side right.now right_key right_len) out.old }
 {
     let l = View {
         words: left,
@@ -191,5 +125,5 @@ pub fn covering_difference_of(
         key: right_key,
         len: right_len,
     };
-    covering_difference(l, r, out)
+    l.list(Operation::CoveringDifference, r, out)
 }

@@ -1,5 +1,5 @@
 -- The loops that count and write: their invariants, and what a turn does to them.
-use Rattle.std.specs.Prelude.{◌≡◌, refl, Bool, true, false, List, [], ◌∷◌, ◌++◌, ℕ, zero, suc, ◌+◌, ◌*◌, ◌-◌, ◌^◌, ◌≤◌, ◌<◌, eqb, leb, length, get_or, set, drop, replicate}
+use Rattle.std.specs.Prelude.{◌≡◌, refl, Bool, true, false, List, [], ◌∷◌, ◌++◌, ℕ, zero, suc, ◌+◌, ◌*◌, ◌-◌, ◌^◌, ◌≤◌, ◌<◌, eqb, leb, length, get_or, set, drop, replicate, None, Some}
 use Rattle.std.proofs.Common.{sym, ◌∙◌, ap, subst, append-nil, arith, length-append, leb-false}
 use Rattle.std.specs.Int.Count.{count_trailing_zeros}
 use Rattle.std.proofs.lemmas.Bool.{eqb-false}
@@ -10,12 +10,7 @@ use Rattle.defs.specs.Entries.{Place, data_place, child_place, places}
 use Rattle.defs.specs.Lists.{Record, record_words}
 use Rattle.defs.specs.Lemmas.{split}
 use Rattle.defs.proofs.DeeperLaws.{whole_deeper}
-use Rattle.theory.specs.declared.Node.{Node}
-use Rattle.theory.specs.declared.Node.TheVariants as node
-use Rattle.theory.specs.declared.Cover.TheVariants as cover
 use Rattle.theory.specs.declared.Covers.{Covers}
-use Rattle.theory.specs.declared.Emit.{Emit}
-use Rattle.theory.specs.declared.Emit.TheVariants as emit
 use Rattle.theory.specs.declared.Item.{Item}
 use Rattle.theory.specs.declared.Level.{Level}
 use Rattle.theory.specs.declared.Step.{Step}
@@ -31,6 +26,7 @@ use Rattle.rules.specs.Records.{moved, front_of}
 use Rattle.view.specs.Standing.{child_in_lem}
 use Rattle.view.specs.Numbers.{place_inside}
 use Rattle.walk.specs.Ready.{Entering, Ready}
+use Rattle.theory.specs.Kinds.{Emit, Node}
 
 -- a buffer with the words of records at its front, and otherwise as it was
 abbrev pub written_over : List Record → List ℕ → List ℕ
@@ -41,9 +37,9 @@ abbrev pub no_level : Level
 no_level =
     record {
       prefix = record { key = 0; len = 0 };
-      left = node.Absent;
-      right = node.Absent;
-      above = record { left = cover.Nothing; right = cover.Nothing };
+      left = None;
+      right = None;
+      above = record { left = None; right = None };
       todo = 0;
     }
 
@@ -54,8 +50,8 @@ Safe j f = Entering j f.prefix f.left f.right
 -- ---- each step keeps it
 module _ (j : Job) (f : Level) (ok : LevelOk j f) (safe : Safe j f) (k : ℕ) where
   leaves_given : (e : Emit) (t : ℕ) → stack.Leaves (λ i. Safe j) k (given e (without f t))
-  leaves_given emit.Nothing t = safe
-  leaves_given (emit.One i) t = safe
+  leaves_given None t = safe
+  leaves_given (Some i) t = safe
 
   module _ (c : ℕ) (small : c < 32) (deep : f.prefix.len < 60) where
     abbrev q : Prefix
@@ -74,9 +70,9 @@ module _ (j : Job) (f : Level) (ok : LevelOk j f) (safe : Safe j f) (k : ℕ) wh
         }
 
     leaves_down : (t : ℕ) (l r : Node) (above : Covers) → Entering j q l r → stack.Leaves (λ i. Safe j) k (down_to j (without f t) q l r above)
-    leaves_down t node.Absent node.Absent above h = safe
-    leaves_down t node.Absent (node.At b) above h = (safe, h)
-    leaves_down t (node.At a) r above h = (safe, h)
+    leaves_down t None None above h = safe
+    leaves_down t None (Some b) above h = (safe, h)
+    leaves_down t (Some a) r above h = (safe, h)
 
   leaves_at : (t : ℕ) (x : Place) → InNode x → stack.Leaves (λ i. Safe j) k (step_at j (without f t) x)
   leaves_at t (data_place n v) i = leaves_given (emit_at j (without f t) n v) t

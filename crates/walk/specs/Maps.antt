@@ -6,7 +6,6 @@ use Rattle.defs.specs.declared.Operation.{Operation}
 use Rattle.defs.specs.declared.Operation.TheVariants.{Union, Intersection, Difference, CoveringDifference, CoveringUnion}
 use Rattle.defs.specs.Entries.{Place, places}
 use Rattle.defs.specs.Tidy.{word_of}
-use Rattle.theory.specs.declared.Node.{Node}
 use Rattle.theory.specs.declared.Covers.{Covers}
 use Rattle.theory.specs.declared.Level.{Level}
 use Rattle.theory.specs.Steps.{Job, enter, marked, wants, wanted, is_cover, cover_on, carried}
@@ -16,6 +15,7 @@ use Rattle.view.specs.Standing.{bitmaps_of, bitmaps_marked}
 use Rattle.view.specs.Covered.{coverage_of}
 use Rattle.view.specs.Kept.{kept_of, coverage_covers}
 use Rattle.rules.specs.Wanted.{either_of, both_of, less_of, place_in, either_bit, both_bit, less_bit, word_on}
+use Rattle.theory.specs.Kinds.{Node}
 
 -- the bitmaps of the places that a list visits
 abbrev pub maps_for : Operation → Job → Prefix → Bitmaps → Bitmaps → Node → Bitmaps

@@ -1,5 +1,5 @@
 -- What the walk's functions work out is what the walk's definition says, one function after the other.
-use Rattle.std.specs.Prelude.{◌≡◌, refl, ℕ, ◌*◌, ◌-◌, ◌%◌, ◌^◌, ◌≤◌, ◌<◌}
+use Rattle.std.specs.Prelude.{◌≡◌, refl, ℕ, ◌*◌, ◌-◌, ◌%◌, ◌^◌, ◌≤◌, ◌<◌, None, Some}
 use Rattle.std.proofs.Common.{sym, ◌∙◌, ap, ap₂, subst, arith, eq-eqb, ne_eqb, le-leb}
 use Rattle.std.specs.Int.Count.{count_trailing_zeros}
 use Rattle.std.proofs.lemmas.Bool.{lt-leb}
@@ -13,14 +13,7 @@ use Rattle.defs.proofs.DeeperLaws.{whole_deeper}
 use Rattle.bits.specs.Places.{place_len, place_value, place_prefix}
 use Rattle.bits.specs.Worked.{one_shl}
 use Rattle.bits.specs.PlaceLaws.{place_prefix_lem, place_len_below, child_place_lem}
-use Rattle.theory.specs.declared.Node.{Node}
-use Rattle.theory.specs.declared.Node.TheVariants as node
-use Rattle.theory.specs.declared.Value.{Value}
-use Rattle.theory.specs.declared.Value.TheVariants as value
-use Rattle.theory.specs.declared.Cover.TheVariants as cover
 use Rattle.theory.specs.declared.Covers.{Covers}
-use Rattle.theory.specs.declared.Emit.{Emit}
-use Rattle.theory.specs.declared.Emit.TheVariants as emit
 use Rattle.theory.specs.declared.Item.{Item}
 use Rattle.theory.specs.declared.Level.{Level}
 use Rattle.theory.specs.declared.Step.{Step}
@@ -32,25 +25,26 @@ use Rattle.theory.specs.Walk.{places_length}
 use Rattle.view.specs.Standing.{child_in_lem}
 use Rattle.view.specs.Numbers.{number_of, place_at, Numbered, place_numbered}
 use Rattle.walk.specs.Ready.{Entering, Passing, Ready}
+use Rattle.theory.specs.Kinds.{Emit, Node, Value}
 
 -- down to two children
-pub down_neither : (j : Job) (f : Level) (q : Prefix) (l r : Node) (above : Covers) → l ≡ node.Absent → r ≡ node.Absent → step.Skip f ≡ down_to j f q l r above
+pub down_neither : (j : Job) (f : Level) (q : Prefix) (l r : Node) (above : Covers) → l ≡ None → r ≡ None → step.Skip f ≡ down_to j f q l r above
 down_neither j f q l r above a b = rw (a, b)
 
-pub down_right : (j : Job) (f : Level) (q : Prefix) (l r : Node) (above : Covers) (g : Level) (i : ℕ) → l ≡ node.Absent → r ≡ node.At i → g ≡ enter j q l r above
+pub down_right : (j : Job) (f : Level) (q : Prefix) (l r : Node) (above : Covers) (g : Level) (i : ℕ) → l ≡ None → r ≡ Some i → g ≡ enter j q l r above
     → step.Down f g ≡ down_to j f q l r above
 down_right j f q l r above g i a b h = ap (step.Down f) h ∙ rw (a, b)
 
-pub down_left : (j : Job) (f : Level) (q : Prefix) (l r : Node) (above : Covers) (g : Level) (i : ℕ) → l ≡ node.At i → g ≡ enter j q l r above
+pub down_left : (j : Job) (f : Level) (q : Prefix) (l r : Node) (above : Covers) (g : Level) (i : ℕ) → l ≡ Some i → g ≡ enter j q l r above
     → step.Down f g ≡ down_to j f q l r above
 down_left j f q l r above g i a h = ap (step.Down f) h ∙ rw a
 
 -- the covers that an item may show: of the side that has no value there, in a covering union
 abbrev pub shown_to : Value → Value → Covers → Covers
-shown_to value.Missing value.Missing c = no_covers
-shown_to (value.Is a) value.Missing c = record { left = cover.Nothing; right = c.right }
-shown_to value.Missing (value.Is b) c = record { left = c.left; right = cover.Nothing }
-shown_to (value.Is a) (value.Is b) c = no_covers
+shown_to None None c = no_covers
+shown_to (Some a) None c = record { left = None; right = c.right }
+shown_to None (Some b) c = record { left = c.left; right = None }
+shown_to (Some a) (Some b) c = no_covers
 
 abbrev pub needed : Operation → Value → Value → Covers → Covers
 needed Union a b c = no_covers
@@ -65,10 +59,10 @@ emit_needed Union q a b c = refl
 emit_needed Intersection q a b c = refl
 emit_needed Difference q a b c = refl
 emit_needed CoveringDifference q a b c = refl
-emit_needed CoveringUnion q value.Missing value.Missing c = refl
-emit_needed CoveringUnion q value.Missing (value.Is b) c = refl
-emit_needed CoveringUnion q (value.Is a) value.Missing c = refl
-emit_needed CoveringUnion q (value.Is a) (value.Is b) c = refl
+emit_needed CoveringUnion q None None c = refl
+emit_needed CoveringUnion q None (Some b) c = refl
+emit_needed CoveringUnion q (Some a) None c = refl
+emit_needed CoveringUnion q (Some a) (Some b) c = refl
 
 carried_again : (op : Operation) (c : Covers) → carried op (carried op c) ≡ carried op c
 carried_again Union c = refl
@@ -100,13 +94,13 @@ module _ (j : Job) (f : Level) (pass : Passing j f) (fits : f.prefix.key < 2 ^ 6
     pub data_none : (a b : Value) → a ≡ value_in j.left.pool j.left.root f.left (place_len h) (place_value h) q
         → b ≡ value_in j.right.pool j.right.root f.right (place_len h) (place_value h) q
         → (c : Covers) → c ≡ needed j.op a b (covers_at j f (place_len h) (place_value h)) → (e : Emit) → e ≡ emit_of j.op q a b c.left c.right
-        → e ≡ emit.Nothing → step.Skip f ≡ step_at j f (data_place (place_len h) (place_value h))
+        → e ≡ None → step.Skip f ≡ step_at j f (data_place (place_len h) (place_value h))
     data_none a b ea eb c ec e ee n = ap (λ (x : Emit). given x f) (sym n) ∙ data_step a b ea eb c ec e ee
 
     pub data_one : (a b : Value) → a ≡ value_in j.left.pool j.left.root f.left (place_len h) (place_value h) q
         → b ≡ value_in j.right.pool j.right.root f.right (place_len h) (place_value h) q
         → (c : Covers) → c ≡ needed j.op a b (covers_at j f (place_len h) (place_value h)) → (e : Emit) → e ≡ emit_of j.op q a b c.left c.right
-        → (i : Item) → e ≡ emit.One i → step.Record i f ≡ step_at j f (data_place (place_len h) (place_value h))
+        → (i : Item) → e ≡ Some i → step.Record i f ≡ step_at j f (data_place (place_len h) (place_value h))
     data_one a b ea eb c ec e ee i n = ap (λ (x : Emit). given x f) (sym n) ∙ data_step a b ea eb c ec e ee
 
   -- a child place

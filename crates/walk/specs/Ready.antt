@@ -1,18 +1,18 @@
 -- What the walk's functions ask of the places at which they stand.
-use Rattle.std.specs.Prelude.{◌≡◌, List, ℕ, ◌%◌, ◌≤◌}
+use Rattle.std.specs.Prelude.{◌≡◌, ◌%◌, ◌≤◌}
 use Rattle.defs.specs.declared.Prefix.{Prefix}
-use Rattle.defs.specs.declared.Operation.{Operation}
 use Rattle.defs.specs.PrefixLaws.{Whole}
-use Rattle.theory.specs.declared.Node.{Node}
 use Rattle.theory.specs.declared.Level.{Level}
 use Rattle.theory.specs.Steps.{Job, carried}
 use Rattle.theory.specs.Walk.{LevelOk}
 use Rattle.view.specs.Standing.{Sane, NodeIn}
-use Rattle.walk.specs.declared.Roots.{Roots}
+use Rattle.view.specs.Seen.{seen}
+use Rattle.walk.specs.declared.Job as code
+use Rattle.theory.specs.Kinds.{Node}
 
--- a walk's list, its pools and its roots
-abbrev pub job_of : Operation → List ℕ → List ℕ → Roots → Job
-job_of op l r roots = record { op = op; left = record { pool = l; root = roots.left }; right = record { pool = r; root = roots.right } }
+-- a walk's list and its two sides, as the definitions see them
+abbrev pub job_of : code.Job → Job
+job_of j = record { op = j.op; left = seen j.left; right = seen j.right }
 
 -- two nodes of prefix p, in pools without faults
 pub record Entering (j : Job) (p : Prefix) (l r : Node) : Type 0 where

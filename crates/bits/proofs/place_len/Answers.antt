@@ -1,14 +1,6 @@
-use Rattle.std.proofs.Common.{sym, refl, ap, ◌∙◌, arith}
-use Rattle.bits.specs.Places.{place_len}
-use Rattle.bits.specs.PlaceLaws.{made, place_len_none}
+use Rattle.std.proofs.Common.{◌∙◌}
+use Rattle.bits.specs.PlaceLaws.{log_is}
 use Rattle.bits.proofs.place_len.Goals as goal
 
-pub returns-then-h-eq0 : goal.returns-then-h-eq0
-returns-then-h-eq0 c = sym (ap place_len c.if-h-eq0.true ∙ place_len_none)
-
-pub overflow_sub-result : goal.overflow_sub-result
-overflow_sub-result c = omega (arith, (made c.args.h (omega arith) (omega arith)).zeros)
-
 pub returns : goal.returns
-unfolding place_len
-returns c = refl
+returns c = let e = c.checked_ilog2.ensures in c.unwrap_or.ensures ∙ log_is c.args.h _ e.none e.power_le e.next_power_gt e.bound

@@ -1,11 +1,8 @@
-use Rattle.std.proofs.Common.{◌%◌, ap, ◌∙◌, arith, pow_pos}
+use Rattle.std.proofs.Common.{◌%◌, ap, ◌∙◌, arith}
 use lib.Count.{ones}
 use Rattle.bits.specs.Worked.{one_shl}
 use Rattle.bits.specs.WordLaws.{rank_low, rank_all}
 use Rattle.bits.proofs.rank.Goals as goal
-
-pub nonzero_rem-result : goal.nonzero_rem-result
-nonzero_rem-result c = omega (arith, one_shl 32 c.args.b (omega arith), pow_pos c.args.b)
 
 pub returns-then-b-lt32 : goal.returns-then-b-lt32
 returns-then-b-lt32 c = ap (λ n. ones (c.args.word % n)) (one_shl 32 c.args.b (omega arith)) ∙ rank_low c.args.b c.args.word

@@ -5,9 +5,6 @@ use Rattle.pool.specs.CheckLaws.{limit}
 use Rattle.defs.specs.Pool.{data_bit}
 use Rattle.pool.proofs.data_limit.Goals as goal
 
-pub overflow_sub-bits : goal.overflow_sub-bits
-overflow_sub-bits c = (limit c.lengths.result (omega (arith, c.lengths.ensures))).some
-
 pub overflow_shl-result : goal.overflow_shl-result
 overflow_shl-result c = (limit c.lengths.result (omega (arith, c.lengths.ensures))).small
 

@@ -2,7 +2,6 @@
 use Rattle.tidy.specs.Runs as runs
 use native.Mathlib.Omega.{arith}
 use lib.Pow.{pow_pos}
-use mathlib.Core.Path.{refl}
 use Prim.Native.Nat.{◌+◌, ◌-◌}
 use native.Mathlib.Nat.{mod-le}
 use Rattle.tidy.proofs.open_span.Goals as goal
@@ -17,7 +16,7 @@ pub overflow_sub-low : goal.overflow_sub-low
 overflow_sub-low c = mod-le _ _
 
 pub overflow_add-result : goal.overflow_add-result
-overflow_add-result c = omega (arith, (runs.ahead_of c.args.root c.requires.1 c.args.depth c.requires.0 (omega arith) _ _ c.open_places-size.ensures refl (omega arith)).inside)
+overflow_add-result c = omega (arith, (runs.ahead_of c.args.root c.requires.1 c.args.depth c.requires.0 (omega arith) _ _ c.open_places-size.ensures c.next_five-next.ensures (omega arith)).inside)
 
 pub returns : goal.returns
-returns c = runs.ahead_of c.args.root c.requires.1 c.args.depth c.requires.0 (omega arith) _ _ c.open_places-size.ensures refl (omega arith)
+returns c = runs.ahead_of c.args.root c.requires.1 c.args.depth c.requires.0 (omega arith) _ _ c.open_places-size.ensures c.next_five-next.ensures (omega arith)

@@ -7,9 +7,6 @@ use Rattle.tidy.proofs.put_all.Goals as goal
 pub loop-at-init : goal.loop-at-init
 loop-at-init c = chosen.numbering_start c.args.first c.args.count c.args.values.now c.requires.0
 
-pub overflow_cast-values : goal.overflow_cast-values
-overflow_cast-values c = omega arith
-
 pub overflow_add-values : goal.overflow_add-values
 overflow_add-values c = omega arith
 
@@ -18,12 +15,6 @@ offset_bounds-values-at c = omega (arith, chosen.numbering_same c.args.first c.a
 
 pub bounds-values-at : goal.bounds-values-at
 bounds-values-at c = omega (arith, chosen.numbering_same c.args.first c.args.count c.args.values.now c.requires.0 _ _ c.loop-at.invariant)
-
-pub overflow_add-at : goal.overflow_add-at
-overflow_add-at c = omega arith
-
-pub loop-at-smaller : goal.loop-at-smaller
-loop-at-smaller c = omega arith
 
 pub loop-at-preserved : goal.loop-at-preserved
 loop-at-preserved c = chosen.numbering_on c.args.first c.args.count c.args.values.now c.requires.0 _ _ c.loop-at.invariant c.loop-at-test.true _ refl

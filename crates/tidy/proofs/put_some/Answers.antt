@@ -5,6 +5,7 @@ use mathlib.Core.Path.{sym, ap, ◌∙◌}
 use Prim.Native.Nat.{◌+◌}
 use native.Mathlib.Omega.{arith}
 use Rattle.tidy.proofs.put_some.Goals as goal
+use Rattle.tidy.proofs.put_some.Goals.{then-bit, else-bit}
 
 pub loop-b-init : goal.loop-b-init
 loop-b-init c = chosen.listing_start c.args.held c.args.first c.args.kept c.args.values.now
@@ -27,23 +28,12 @@ bounds-values-at c = chosen.listing_room c.args.held c.args.first c.args.kept c.
 pub overflow_add-at : goal.overflow_add-at
 overflow_add-at c = omega (arith, c.loop-b.invariant.place, rank_le c.loop-b.b c.args.kept, c.loop-b-test.true)
 
-pub overflow_add-b : goal.overflow_add-b
-overflow_add-b c = omega arith
-
-pub loop-b-smaller-then-bit : goal.loop-b-smaller-then-bit
-loop-b-smaller-then-bit c = omega arith
-
-pub loop-b-preserved-then-bit : goal.loop-b-preserved-then-bit
-loop-b-preserved-then-bit c = chosen.listing_on c.args.held c.args.first c.args.kept c.args.values.now c.requires.0 _ _ _ c.loop-b-test.true c.loop-b.invariant (sym c.bit.ensures ∙ c.if-bit.true) _ (ap (c.args.first +◌) c.rank.ensures)
-
-pub overflow_add-b-else-bit : goal.overflow_add-b-else-bit
-overflow_add-b-else-bit c = omega arith
-
-pub loop-b-smaller : goal.loop-b-smaller
-loop-b-smaller c = omega arith
-
-pub loop-b-preserved : goal.loop-b-preserved
-loop-b-preserved c = chosen.listing_off c.args.held c.args.first c.args.kept c.args.values.now c.requires.0 _ _ _ c.loop-b-test.true c.loop-b.invariant (sym c.bit.ensures ∙ c.if-bit.false)
-
 pub returns : goal.returns
 returns c = chosen.listing_end c.args.held c.args.first c.args.kept c.args.values.now _ _ _ (omega (arith, c.loop-b-test.false)) c.loop-b.invariant
+
+pub loop-b-preserved : goal.loop-b-preserved
+loop-b-preserved c =
+    elim c.if-bit.branch [
+      | then-bit w ↦ rw (w.values-is, w.at-is) (chosen.listing_on c.args.held c.args.first c.args.kept c.args.values.now c.requires.0 _ _ _ c.loop-b-test.true c.loop-b.invariant (sym c.bit.ensures ∙ w.if-bit.true) _ (ap (c.args.first +◌) w.rank.ensures))
+      | else-bit w ↦ rw (w.values-is, w.at-is) (chosen.listing_off c.args.held c.args.first c.args.kept c.args.values.now c.requires.0 _ _ _ c.loop-b-test.true c.loop-b.invariant (sym c.bit.ensures ∙ w.if-bit.false))
+    ]

@@ -1,5 +1,5 @@
-use Rattle.std.proofs.Common.{◌-◌, length}
+use Rattle.std.proofs.Common.{◌≤◌, length}
 use Rattle.cases.proofs.replay.part.Given as goal
 
-abbrev pub decreases-loop-at : goal.decreases-loop-at
-decreases-loop-at l = length l.text - l.at
+abbrev pub invariant-loop : goal.invariant-loop
+invariant-loop l = (l.left ≤ length l.text) × (length l.scanner ≤ length l.text)

@@ -1,28 +1,26 @@
+-- `sets::covering_difference::align` meets its contract. By what one level down comes to.
 use native.Mathlib.Omega.{arith}
-use Rattle.sets.specs.Listing.{side_of}
+use Rattle.std.proofs.Common.{◌/◌, ap, ◌∙◌}
+use Rattle.std.specs.Prelude.{Some}
+use Rattle.view.specs.Seen.{seen}
+use Rattle.view.specs.Standing.{sane_formed}
 use Rattle.sets.specs.Aligned as al
 use Rattle.sets.proofs.covering_difference.align.Goals as goal
 
-pub loop-d-init : goal.loop-d-init
-loop-d-init c = al.aligning_start (side_of c.args.r.now c.args.root) c.requires.0 _ _
+pub loop-k-init : goal.loop-k-init
+loop-k-init c = al.aligning_start (seen c.args.right) (sane_formed _ c.args.right.formed) _ _
 
 pub down-requires : goal.down-requires
-down-requires c = (c.requires.0, c.loop-d.invariant.inside, omega (arith, c.requires.1, c.requires.2, c.loop-d.invariant.fives))
+down-requires c = (c.loop-k.invariant.inside, omega (arith, c.requires))
 
-pub overflow_add-d : goal.overflow_add-d
-overflow_add-d c = omega (arith, c.requires.2)
+pub returns-in_err-child : goal.returns-in_err-child
+returns-in_err-child c = c.from_residual.ensures ∙ al.aligned_covered (seen c.args.right) c.args.path (c.args.depth / 5) _ _ c.loop-k.invariant c.loop-k-test.true _ c.down.ensures c.in_err-child.was
 
-pub loop-d-smaller : goal.loop-d-smaller
-loop-d-smaller c = omega (arith, c.if-depth-d.false)
+pub returns-in_default : goal.returns-in_default
+returns-in_default c = al.aligned_missing (seen c.args.right) c.args.path (c.args.depth / 5) _ _ c.loop-k.invariant c.loop-k-test.true _ c.down.ensures (c.in_ok-child.was ∙ ap Some c.in_default.is)
 
-pub loop-d-preserved : goal.loop-d-preserved
-loop-d-preserved c = al.aligning_on (side_of c.args.r.now c.args.root) c.args.path c.args.depth _ _ c.loop-d.invariant c.requires.1 c.if-depth-d.false _ c.down.ensures c.requires.0 _ c.in-At.is
+pub loop-k-preserved : goal.loop-k-preserved
+loop-k-preserved c = al.aligning_on (seen c.args.right) c.args.path (c.args.depth / 5) _ _ c.loop-k.invariant c.loop-k-test.true _ c.down.ensures (sane_formed _ c.args.right.formed) _ (c.in_ok-child.was ∙ ap Some c.in-Some.is)
 
-pub returns-then-depth-d : goal.returns-then-depth-d
-returns-then-depth-d c = al.aligned_there (side_of c.args.r.now c.args.root) c.args.path c.args.depth _ _ c.loop-d.invariant c.requires.1 c.if-depth-d.true
-
-pub returns-in-Covered : goal.returns-in-Covered
-returns-in-Covered c = al.aligned_covered (side_of c.args.r.now c.args.root) c.args.path c.args.depth _ _ c.loop-d.invariant c.requires.1 c.if-depth-d.false _ c.down.ensures c.in-Covered.is
-
-pub returns-in-Missing : goal.returns-in-Missing
-returns-in-Missing c = al.aligned_missing (side_of c.args.r.now c.args.root) c.args.path c.args.depth _ _ c.loop-d.invariant c.requires.1 c.if-depth-d.false _ c.down.ensures c.in-Missing.is
+pub returns : goal.returns
+returns c = al.aligned_there (seen c.args.right) c.args.path (c.args.depth / 5) _ _ c.loop-k.invariant (omega arith)

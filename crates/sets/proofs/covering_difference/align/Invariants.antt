@@ -1,10 +1,8 @@
-use Prim.Native.Nat.{◌-◌}
-use Rattle.sets.specs.Listing.{side_of}
+-- k levels down, with a node of the right side.
+use Rattle.std.proofs.Common.{◌/◌}
+use Rattle.view.specs.Seen.{seen}
 use Rattle.sets.specs.Aligned as al
 use Rattle.sets.proofs.covering_difference.align.Given as goal
 
-abbrev pub invariant-loop-d : goal.invariant-loop-d
-invariant-loop-d l = al.Aligning (side_of l.r l.root) l.path l.depth l.node l.d
-
-abbrev pub decreases-loop-d : goal.decreases-loop-d
-decreases-loop-d l = l.depth - l.d
+abbrev pub invariant-loop-k : goal.invariant-loop-k
+invariant-loop-k l = al.Aligning (seen l.right) l.path (l.depth / 5) l.node l.k

@@ -1,28 +1,21 @@
-use Rattle.defs.specs.declared.Operation.TheVariants.{CoveringDifference}
-use Rattle.theory.specs.declared.Node.TheVariants as node
-use mathlib.Core.Path.{refl}
+-- `sets::covering_difference::start` meets its contract. By what aligning found.
 use native.Mathlib.Omega.{arith}
-use Rattle.sets.specs.Listing.{carries_none}
+use Rattle.view.specs.Seen.{seen}
+use Rattle.view.specs.Standing.{sane_formed}
 use Rattle.sets.specs.Beginning as beg
 use Rattle.sets.proofs.covering_difference.start.Goals as goal
 
-pub entered-requires : goal.entered-requires
-entered-requires c = record {
-  entering = beg.start_entering c.args.l.now c.args.r.now c.args.roots (omega (arith, c.well_formed.1.1.0)) (omega (arith, c.well_formed.1.1.0)) c.requires.2 c.requires.3 c.requires.0 c.requires.1 _ c.shortened-prefix.ensures _ c.align.ensures node.Absent tt _ c.at_depth-left.ensures;
-  above_value = carries_none CoveringDifference _ c.no_covers-none.ensures;
-}
+pub returns-in_default : goal.returns-in_default
+returns-in_default c = (
+  beg.covered_ready (seen c.args.left) (seen c.args.right) (omega arith) (omega arith) c.requires.0 c.requires.1 (sane_formed _ c.args.left.formed) (sane_formed _ c.args.right.formed) _ c.shortened-prefix.ensures _ c.align.ensures c.in_default.is _ c.nothing.ensures,
+  beg.covered_list (seen c.args.left) (seen c.args.right) (omega arith) (omega arith) c.requires.0 c.requires.1 (sane_formed _ c.args.left.formed) (sane_formed _ c.args.right.formed) _ c.shortened-prefix.ensures _ c.align.ensures c.in_default.is _ c.nothing.ensures,
+)
 
-pub entered-requires-in-At : goal.entered-requires-in-At
-entered-requires-in-At c = record {
-  entering = beg.start_entering c.args.l.now c.args.r.now c.args.roots (omega (arith, c.well_formed.1.1.0)) (omega (arith, c.well_formed.1.1.0)) c.requires.2 c.requires.3 c.requires.0 c.requires.1 _ c.shortened-prefix.ensures _ c.align.ensures (node.At _) (beg.reached c.args.l.now c.args.r.now c.args.roots (omega (arith, c.well_formed.1.1.0)) (omega (arith, c.well_formed.1.1.0)) c.requires.2 c.requires.3 c.requires.0 c.requires.1 _ c.shortened-prefix.ensures _ c.align.ensures _ c.in-At.is) _ c.at_depth-left.ensures;
-  above_value = carries_none CoveringDifference _ c.no_covers-none.ensures;
-}
+pub entered-requires-clause-entering : goal.entered-requires-clause-entering
+entered-requires-clause-entering c = beg.start_entering (seen c.args.left) (seen c.args.right) (omega arith) (omega arith) c.requires.0 c.requires.1 (sane_formed _ c.args.left.formed) (sane_formed _ c.args.right.formed) _ c.shortened-prefix.ensures _ c.align.ensures _ (beg.reached (seen c.args.left) (seen c.args.right) (omega arith) (omega arith) c.requires.0 c.requires.1 (sane_formed _ c.args.left.formed) (sane_formed _ c.args.right.formed) _ c.shortened-prefix.ensures _ c.align.ensures _ c.in-Some.is) _ c.at_depth.ensures
 
-pub returns-in-Covered : goal.returns-in-Covered
-returns-in-Covered c = (beg.covered_ready c.args.l.now c.args.r.now c.args.roots (omega (arith, c.well_formed.1.1.0)) (omega (arith, c.well_formed.1.1.0)) c.requires.2 c.requires.3 c.requires.0 c.requires.1 _ c.shortened-prefix.ensures _ c.align.ensures c.in-Covered.is _ c.nothing.ensures, beg.covered_list c.args.l.now c.args.r.now c.args.roots (omega (arith, c.well_formed.1.1.0)) (omega (arith, c.well_formed.1.1.0)) c.requires.2 c.requires.3 c.requires.0 c.requires.1 _ c.shortened-prefix.ensures _ c.align.ensures c.in-Covered.is _ c.nothing.ensures)
-
-pub returns-in-Missing : goal.returns-in-Missing
-returns-in-Missing c = (beg.start_ready c.args.l.now c.args.r.now c.args.roots (omega (arith, c.well_formed.1.1.0)) (omega (arith, c.well_formed.1.1.0)) c.requires.2 c.requires.3 c.requires.0 c.requires.1 _ c.shortened-prefix.ensures _ c.align.ensures node.Absent tt _ c.at_depth-left.ensures _ c.no_covers-none.ensures _ c.entered.ensures, beg.missing_list c.args.l.now c.args.r.now c.args.roots (omega (arith, c.well_formed.1.1.0)) (omega (arith, c.well_formed.1.1.0)) c.requires.2 c.requires.3 c.requires.0 c.requires.1 _ c.shortened-prefix.ensures _ c.align.ensures node.Absent tt _ c.at_depth-left.ensures _ c.no_covers-none.ensures _ c.entered.ensures c.in-Missing.is refl)
-
-pub returns-in-At : goal.returns-in-At
-returns-in-At c = (beg.start_ready c.args.l.now c.args.r.now c.args.roots (omega (arith, c.well_formed.1.1.0)) (omega (arith, c.well_formed.1.1.0)) c.requires.2 c.requires.3 c.requires.0 c.requires.1 _ c.shortened-prefix.ensures _ c.align.ensures (node.At _) (beg.reached c.args.l.now c.args.r.now c.args.roots (omega (arith, c.well_formed.1.1.0)) (omega (arith, c.well_formed.1.1.0)) c.requires.2 c.requires.3 c.requires.0 c.requires.1 _ c.shortened-prefix.ensures _ c.align.ensures _ c.in-At.is) _ c.at_depth-left.ensures _ c.no_covers-none.ensures _ c.entered-in-At.ensures, beg.there_list c.args.l.now c.args.r.now c.args.roots (omega (arith, c.well_formed.1.1.0)) (omega (arith, c.well_formed.1.1.0)) c.requires.2 c.requires.3 c.requires.0 c.requires.1 _ c.shortened-prefix.ensures _ c.align.ensures (node.At _) (beg.reached c.args.l.now c.args.r.now c.args.roots (omega (arith, c.well_formed.1.1.0)) (omega (arith, c.well_formed.1.1.0)) c.requires.2 c.requires.3 c.requires.0 c.requires.1 _ c.shortened-prefix.ensures _ c.align.ensures _ c.in-At.is) _ c.at_depth-left.ensures _ c.no_covers-none.ensures _ c.entered-in-At.ensures _ c.in-At.is refl)
+pub returns : goal.returns
+returns c = (
+  beg.start_ready (seen c.args.left) (seen c.args.right) (omega arith) (omega arith) c.requires.0 c.requires.1 (sane_formed _ c.args.left.formed) (sane_formed _ c.args.right.formed) _ c.shortened-prefix.ensures _ c.align.ensures _ (beg.reached (seen c.args.left) (seen c.args.right) (omega arith) (omega arith) c.requires.0 c.requires.1 (sane_formed _ c.args.left.formed) (sane_formed _ c.args.right.formed) _ c.shortened-prefix.ensures _ c.align.ensures _ c.in-Some.is) _ c.at_depth.ensures _ c.no_covers.ensures _ c.entered.ensures,
+  beg.there_list (seen c.args.left) (seen c.args.right) (omega arith) (omega arith) c.requires.0 c.requires.1 (sane_formed _ c.args.left.formed) (sane_formed _ c.args.right.formed) _ c.shortened-prefix.ensures _ c.align.ensures _ (beg.reached (seen c.args.left) (seen c.args.right) (omega arith) (omega arith) c.requires.0 c.requires.1 (sane_formed _ c.args.left.formed) (sane_formed _ c.args.right.formed) _ c.shortened-prefix.ensures _ c.align.ensures _ c.in-Some.is) _ c.at_depth.ensures _ c.no_covers.ensures _ c.entered.ensures c.in-Some.is,
+)

@@ -1,18 +1,9 @@
-use native.Mathlib.Omega.{arith}
-use Rattle.text.proofs.SpellLaws.{place_start, place_on, place_all}
+use Rattle.std.proofs.Common.{arith}
+use Rattle.text.proofs.SpellLaws.{places_power, places_zero}
 use Rattle.text.proofs.digits.places.Goals as goal
 
-pub loop-left-init : goal.loop-left-init
-loop-left-init c = place_start _ c.ranges.n.fits
+pub returns-in-Some : goal.returns-in-Some
+returns-in-Some c = (places_power _ _ c.in-Some.ensures.bound c.in-Some.ensures.power_le c.in-Some.ensures.next_power_gt, omega (arith, c.in-Some.ensures.bound))
 
-pub overflow_add-k : goal.overflow_add-k
-overflow_add-k c = omega (arith, c.loop-left.invariant.sum)
-
-pub loop-left-smaller : goal.loop-left-smaller
-loop-left-smaller c = omega arith
-
-pub loop-left-preserved : goal.loop-left-preserved
-loop-left-preserved c = place_on _ _ _ c.loop-left.invariant c.loop-left-test.true
-
-pub returns : goal.returns
-returns c = place_all _ _ _ c.loop-left.invariant c.loop-left-test.false
+pub returns-in-None : goal.returns-in-None
+returns-in-None c = (places_zero _ c.in-None.ensures.none, omega arith)
