@@ -4,6 +4,7 @@ use std::fs;
 use std::io::Write;
 use std::path::PathBuf;
 use std::process::{Command, Output, Stdio};
+use std::sync::atomic::{AtomicU32, Ordering};
 
 /// A file of this test's own with these bytes.
 fn file(name: &str, bytes: &[u8]) -> String {
@@ -43,9 +44,12 @@ fn refused(arguments: &[&str], input: &str) -> String {
     String::from_utf8(output.stderr).expect("it is text")
 }
 
-/// An input of this width and operation, as far as the converter reads it back.
+/// An input of this width and operation, as far as the converter reads it back. Each has a file of its own: tests run side by side, and one that
+/// writes a file anew would take it from under another.
 fn input_of(width: u32, operation: &str) -> String {
-    let name = format!("asked-{width}-{operation}");
+    static MADE: AtomicU32 = AtomicU32::new(0);
+    let number = MADE.fetch_add(1, Ordering::SeqCst);
+    let name = format!("asked-{width}-{operation}-{number}");
     file(&name, format!("W\t{width}\nO\t{operation}\n").as_bytes())
 }
 
