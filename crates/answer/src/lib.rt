@@ -8,7 +8,7 @@ ghost use Rattle.answer.specs.Answering.{side, leaves, called, said_by, text_of}
 use defs::{Answer, Prefix, Refusal};
 use text::{Call, Said};
 
-// The answer to a call on two pools.
+// The answer to a call on two pools, whose words nobody has checked yet. The call is a value that the input names; the E line shows the numbers.
 fn called(
     call: Call,
     width: u32,

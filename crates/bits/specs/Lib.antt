@@ -1,6 +1,7 @@
 -- What the leaves compute.
 pub mod Words
 pub mod Places
+pub mod SetBits
 -- What their callers use: laws.
 pub mod WordLaws
 pub mod CommonLaws

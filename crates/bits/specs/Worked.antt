@@ -73,10 +73,24 @@ module _ (p q : Prefix) where
 
 -- ---- places
 
+-- the highest one of a number is not above it
+pub value_under : (h n : ℕ) → 0 < h → h < 2 ^ 32 → n ≡ place_len h → 1 * 2 ^ n % 2 ^ 32 ≤ h
+value_under h n some word e =
+    let m = made h some word in
+    let s : 1 * 2 ^ n % 2 ^ 32 ≡ 2 ^ place_len h = rw e (one_shl 32 (place_len h) m.short) in
+    omega arith
+
 -- the highest one of a number, taken off
-pub value_is : (h n : ℕ) → n ≡ place_len h → h - 1 * 2 ^ n % 2 ^ 32 ≡ place_value h
+pub value_left : (h n : ℕ) → n ≡ place_len h → h - 1 * 2 ^ n % 2 ^ 32 ≡ place_value h
 unfolding place_value
-value_is h n e = rw e (ap (h -◌) (one_shl 32 (place_len h) (place_len_short h)))
+value_left h n e = rw e (ap (h -◌) (one_shl 32 (place_len h) (place_len_short h)))
+
+-- it is there to be taken off
+pub value_is : (h n : ℕ) → 0 < h → h < 2 ^ 32 → n ≡ place_len h → (1 * 2 ^ n % 2 ^ 32 ≤ h) × (h - 1 * 2 ^ n % 2 ^ 32 ≡ place_value h)
+value_is h n some word e =
+    let m = made h some word in
+    let s : 1 * 2 ^ n % 2 ^ 32 ≡ 2 ^ place_len h = rw e (one_shl 32 (place_len h) m.short) in
+    (omega arith, value_left h n e)
 
 module _ (n v : ℕ) where
   pub number_wide : 6 ≤ n → 0 ≡ place_number n v

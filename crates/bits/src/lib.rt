@@ -7,6 +7,8 @@ ghost use Rattle.defs.specs.Pool.{bit, rank, ones};
 ghost use Rattle.defs.specs.PrefixLaws.{cut};
 ghost use Rattle.bits.specs.Words.{mask_of, common_len};
 ghost use Rattle.bits.specs.Places.{place_len, place_value, place_number, place_prefix};
+ghost use Rattle.bits.specs.SetBits.{next_bit};
+ghost use Rattle.std.specs.Iterator.{at_most};
 
 use defs::Prefix;
 
@@ -81,6 +83,36 @@ pub fn ones(word: u32) -> u32
     ensures { result ≡ ones word }
 {
     word.count_ones()
+}
+
+// The numbers of a word's set bits, lowest first.
+#[derive(Drop)]
+pub struct SetBits {
+    left: u64,
+}
+
+// The set bits of a word: a `for` over them costs a turn for each, and none for the others.
+pub fn set_bits(word: u64) -> SetBits
+    ensures { result.left ≡ word }
+{
+    SetBits { left: word }
+}
+
+impl Iterator for SetBits {
+    type Item = u32;
+
+    ghost next_gives = { λ s out t. next_bit s.left out t.left };
+
+    ghost remaining = { λ s. at_most s.left };
+
+    fn next(&mut self) -> Option<u32> {
+        if self.left == 0 {
+            return None;
+        }
+        let z = self.left.trailing_zeros();
+        self.left -= 1 << z;
+        Some(z)
+    }
 }
 
 // The bits that place h adds to its node's prefix: where its number's highest one stands.

@@ -6,7 +6,8 @@ use defs::{Answer, Operation};
 use std::io;
 use std::io::Read;
 
-// What stands for an answer where a stored list is too long for the program's buffers. No call gives it.
+// What stands for an answer where a stored list is too long for the program's buffers. No call gives it. A number and no `None` in the end, since a
+// stored 99 has always compared as equal to it, and what the program prints stays.
 const TOO_LONG: Answer = Answer {
     number: 99,
     beside: 0,
@@ -169,7 +170,7 @@ fn tidying(text: &mut Scanner<'_>, width: u32) -> bool
     is_answered && is_written && is_valued
 }
 
-// One case: its kind, its width, and what its kind asks.
+// One case: its kind, its width, and what its kind asks. The kind is a number of the stored text, so it is a value.
 fn case(text: &mut Scanner<'_>) -> bool
     ensures { length text.new ≤ length text.old }
 {

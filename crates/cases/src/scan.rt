@@ -22,7 +22,7 @@ impl Word for u64 {
     }
 }
 
-// A hex digit's value.
+// A hex digit's value. The text program has such a reader of its own, with another contract; the two share no crate.
 fn digit(c: u8) -> Option<u8> {
     match c {
         b'0'..=b'9' => Some(c - b'0'),
@@ -88,7 +88,7 @@ impl Scanner<'_> {
         self.rest = &[];
     }
 
-    // The next number, or 0 where the text has no more.
+    // The next number, or 0 where the text has no more. A number and no `Option`: what a text without its end does stays as it was.
     pub(crate) fn number(&mut self) -> u64
         ensures { length self.new ≤ length self.old }
     {

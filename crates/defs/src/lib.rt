@@ -12,13 +12,13 @@ pub use refusals::{Fault, PoolError, Refusal};
 
 // A 64-bit key, first bit highest, and a length. Prefixes stand in the order of their keys, and of their lengths where the keys are equal.
 #[repr(C)]
-#[derive(Clone, Copy, Debug, PartialEq, Eq, PartialOrd, Ord)]
+#[derive(Clone, Copy, Debug, Default, PartialEq, Eq, PartialOrd, Ord)]
 pub struct Prefix {
     pub key: u64,
     pub len: u32,
 }
 
-// The refusal number or 0, the number beside it, and a second one, which only the check uses for its fault.
+// The refusal number or 0, the number beside it, and a second one, which only the check uses for its fault. Numbers and no enum: C gets it so.
 #[repr(C)]
 #[derive(Clone, Copy, Debug, PartialEq, Eq)]
 pub struct Answer {

@@ -65,7 +65,7 @@ impl Fault {
 }
 
 impl PoolError {
-    // The refusal of a call whose left pool, or only one, this is said of.
+    // The refusal of a call whose left pool, or only one, this is said of. Two functions, since a caller names its side.
     pub fn on_left(self) -> Refusal
         ensures { result ≡ on_left self }
     {
@@ -114,6 +114,7 @@ impl From<Result<u64, Refusal>> for Answer {
     }
 }
 
+// One impl for each thing that a call may say when it is done: a number, or yes or no.
 impl From<Result<bool, Refusal>> for Answer {
     ghost from_gives = { λ outcome answer. answer ≡ answer_whether outcome };
 

@@ -14,7 +14,7 @@ pub fn lhamtrovi_check(width: u32, pool: &[u32]) -> Answer
     pool::check(width, pool).into()
 }
 
-// The list of an operation: D1 to D5. lhamtrovi_c has an export for each.
+// The list of an operation: D1 to D5. lhamtrovi_c has an export for each, which hands roots in as numbers.
 pub fn lhamtrovi_list(
     op: Operation,
     width: u32,

@@ -16,7 +16,7 @@ pub extern "C" fn lhamtrovi_check(width: u32, pool: &[u32]) -> Answer
     lhamtrovi::lhamtrovi_check(width, pool)
 }
 
-// The prefixes of either view.
+// The prefixes of either view. Each list has an export, and each side its words and numbers one by one: C calls them so.
 #[unsafe(no_mangle)]
 pub extern "C" fn lhamtrovi_union(
     width: u32,

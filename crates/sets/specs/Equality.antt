@@ -1,8 +1,7 @@
 -- How code compares keys: a pair of nodes, its children place by place, and the whole call.
-use Rattle.std.specs.Prelude.{◌≡◌, refl, Bool, true, false, ◌||◌, List, [], ℕ, zero, suc, ◌+◌, ◌*◌, ◌-◌, ◌/◌, ◌%◌, ◌^◌, ◌≤◌, ◌<◌, eqb, None, Some}
+use Rattle.std.specs.Prelude.{◌≡◌, refl, Bool, true, false, ◌||◌, List, [], ℕ, zero, suc, ◌+◌, ◌*◌, ◌-◌, ◌/◌, ◌^◌, ◌≤◌, ◌<◌, eqb, None, Some}
 use Rattle.std.proofs.Common.{sym, ◌∙◌, ap, ap₂, subst, arith, eqb-true, eq-eqb, ne_eqb}
 use Rattle.std.proofs.lemmas.Bool.{false≢true}
-use Rattle.std.specs.Int.Count.{count_trailing_zeros}
 use Rattle.defs.specs.declared.Prefix.{Prefix}
 use Rattle.defs.specs.declared.Answer.{Answer}
 use Rattle.defs.specs.declared.Operation.TheVariants.{Union}
@@ -18,11 +17,11 @@ use Rattle.bits.specs.Words.{common_len}
 use Rattle.bits.specs.Places.{place_prefix}
 use Rattle.bits.specs.PlaceLaws.{place_prefix_lem, child_place_lem}
 use Rattle.bits.specs.WordLaws.{bit_none}
-use Rattle.bits.specs.Worked.{one_shl}
+use Rattle.bits.specs.SetBits.{Taken, lowest_inside}
 use Rattle.theory.specs.Sides.{child_in}
 use Rattle.view.specs.Standing.{Sane, NodeIn, bitmaps_of, child_in_lem}
 use Rattle.view.specs.declared.Bitmaps.{Bitmaps}
-use Rattle.view.specs.Spreads.{below_all, one, lowly}
+use Rattle.view.specs.Spreads.{below_all, one, apart}
 use Rattle.view.specs.Emptiness.{both_true, below_of, below_fails}
 use Rattle.view.specs.Kept.{kept_none}
 use Rattle.view.specs.Descent.{cut_to, node_down}
@@ -125,24 +124,18 @@ module _ (l r : Side) (p : Prefix) (a b : Node) (levels : ℕ) where
           let k = neither_of _ _ (sym (unset c) ∙ e) in
           ap₂ (λ (u v : Node). equal_at l r levels u v (deeper p 5 c)) (no_child l.pool l.root a c (deeper p 5 c) k.0) (no_child r.pool r.root b c (deeper p 5 c) k.1) ∙ equal_none l r levels (deeper p 5 c)
 
-  module _ (todo : ℕ) (k : Comparing todo) (some : 0 < todo) where
-    pub next_inside : count_trailing_zeros 32 todo < 32
-    next_inside = (lowly 32 todo some k.small).inside
+  module _ (todo z rest : ℕ) (k : Comparing todo) (n : Taken todo z rest) where
+    fits : todo < 2 ^ 64
+    fits = omega (arith, k.small)
 
-    pub next_there : 2 ^ count_trailing_zeros 32 todo ≤ todo
-    next_there = (lowly 32 todo some k.small).part
+    pub next_inside : z < 32
+    next_inside = lowest_inside todo z rest fits n 32 k.small
 
-    pub next_shift : 1 * 2 ^ count_trailing_zeros 32 todo % 2 ^ 32 ≡ 2 ^ count_trailing_zeros 32 todo
-    next_shift = one_shl 32 (count_trailing_zeros 32 todo) next_inside
-
-    pub comparing_on : asked (count_trailing_zeros 32 todo) ≡ true → Comparing (todo - 2 ^ count_trailing_zeros 32 todo)
-    comparing_on e = record { small = omega (arith, k.small); so_far = λ c i f. split (eqb c z) (λ t. ap asked (eqb-true c z t) ∙ e) (λ t. k.so_far c i (kept_unset c t f)) }
+    pub comparing_on : asked z ≡ true → Comparing rest
+    comparing_on e = record { small = omega (arith, k.small, n.2); so_far = λ c i f. split (eqb c z) (λ t. ap asked (eqb-true c z t) ∙ e) (λ t. k.so_far c i (kept_unset c t f)) }
       where
-        z : ℕ
-        z = count_trailing_zeros 32 todo
-
-        kept_unset : (c : ℕ) → eqb c z ≡ false → bit c (todo - 2 ^ z) ≡ false → bit c todo ≡ false
-        kept_unset c t f = one_none (bit c todo) ((lowly 32 todo some k.small).apart c ∙ ap₂ (λ (u v : Bool). one u + one v) t f)
+        kept_unset : (c : ℕ) → eqb c z ≡ false → bit c rest ≡ false → bit c todo ≡ false
+        kept_unset c t f = one_none (bit c todo) (apart todo z rest fits n c ∙ ap₂ (λ (u v : Bool). one u + one v) t f)
 
   module _ (x y : ℕ) (ex : x ≡ kept l a p) (ey : y ≡ kept r b p) where
     pub pair_differs : (x ≡ y → ⊥) → false ≡ equal_at l r (suc levels) a b p
@@ -155,9 +148,8 @@ module _ (l r : Side) (p : Prefix) (a b : Node) (levels : ℕ) where
       pub comparing_fails : (c : ℕ) → c < 32 → asked c ≡ false → false ≡ equal_at l r (suc levels) a b p
       comparing_fails c i f = sym (by_children ∙ below_fails asked 32 c i f)
 
-      pub comparing_ends : (todo : ℕ) → todo ≤ 0 → Comparing todo → true ≡ equal_at l r (suc levels) a b p
-      comparing_ends todo h k =
-          let z : todo ≡ 0 = omega arith in
+      pub comparing_ends : (todo : ℕ) → todo ≡ 0 → Comparing todo → true ≡ equal_at l r (suc levels) a b p
+      comparing_ends todo z k =
           sym (by_children ∙ below_of asked 32 (λ c i. k.so_far c i (ap (bit c) z ∙ bit_none 0 c 0 (omega arith) (omega arith))))
 
 -- ---- where the comparison starts

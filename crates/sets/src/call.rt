@@ -29,7 +29,7 @@ fn common_start(job: Job<'_>) -> Level
     job.entered(prefix, left, right, walk::no_covers())
 }
 
-// Where each list's walk starts. Covering difference aligns the right view with the left root.
+// Where each list's walk starts. Covering difference aligns the right view with the left root. As in the walk, an operation is a value and no type.
 fn start(job: Job<'_>) -> Level
     requires { (job.left.root.len ≤ 64) × (job.right.root.len ≤ 64) }
     ensures { Ready (job_of job.entry) result
@@ -50,7 +50,7 @@ fn values_in(side: Side<'_>) -> u64
     pool::first_value(side.words, last) as u64 + held as u64
 }
 
-// The most records that a list may have: one for each value of the left pool, or of both.
+// The most records that a list may have: one for each value of the left pool, or of both. An operation is a value here too.
 fn most_records(job: Job<'_>) -> u64
     ensures { result ≡ most_from job.entry.op (values_of job.entry.left.words.now) (values_of job.entry.right.words.now) }
 {
@@ -100,7 +100,7 @@ fn listed(job: Job<'_>, start: Level, out: &mut [u64]) -> Result<u64, Refusal>
     Ok(written(job, start, out))
 }
 
-// A list of two views as records, and how many there are, or a refusal.
+// A list of two views as records, and how many there are, or a refusal. Public, and named in README.md: its words come from anyone, and are no Side yet.
 pub fn list(
     op: Operation,
     width: u32,

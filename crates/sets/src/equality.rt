@@ -41,13 +41,11 @@ impl<'a> Sides<'a> {
         }
         let l = view::bitmaps_at(self.left.words, left);
         let r = view::bitmaps_at(self.right.words, right);
-        let mut todo = rules::union::wanted(l, r).child;
-        while todo > 0 {
-            let c = u32::trailing_zeros(todo);
+        let places = rules::union::wanted(l, r).child;
+        for c in bits::set_bits(u64::from(places)) {
             if !self.child_equal(p, left, right, c, levels) {
                 return false;
             }
-            todo -= 1 << c;
         }
         true
     }
@@ -65,7 +63,7 @@ impl<'a> Sides<'a> {
     }
 }
 
-// Whether two views hold the same prefixes, or a refusal.
+// Whether two views hold the same prefixes, or a refusal. Public, as `list`, and over words that are no Side yet.
 pub fn equal_keys(
     width: u32,
     left: &[u32],

@@ -96,7 +96,7 @@ pub(crate) fn places(n: u64) -> usize
     }
 }
 
-// Puts the last k digits of n at the front of a buffer, the last one first.
+// Puts the last k digits of n at the front of a buffer, the last one first, for both bases: `write!` would want a writer over the buffer beside it.
 pub(crate) fn spell(n: u64, base: u64, k: usize, out: &mut [u8])
     requires { (0 < base) × (base ≤ 16) × (k ≤ length out.old) }
     ensures { take k out.new ≡ digits base k n }

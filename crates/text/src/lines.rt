@@ -28,7 +28,7 @@ fn behind(line: &[u8], letter: u8) -> Option<&[u8]>
     }
 }
 
-// Line W.
+// Line W. No twin of line O, which looks alike: each is one line that hands its fields to a reader of another type.
 pub(crate) fn width_line(line: &[u8]) -> Option<u32>
     ensures { result ≡ width_line line.now }
 {

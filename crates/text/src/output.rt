@@ -1,4 +1,5 @@
-// Writing lines into a lent buffer. A text that does not fit is cut where the buffer ends.
+// Writing lines into a lent buffer. A text that does not fit is cut where the buffer ends. By hand and not by `write!`: nothing allocates, and each
+// clause names the bytes that stand in the buffer, cut or not.
 ghost use Rattle.std.specs.Prelude.{◌≡◌, ◌∷◌, ◌<◌, ◌≤◌, ◌/◌, length};
 ghost use Rattle.defs.specs.Lists.{record_words};
 ghost use Rattle.text.specs.Bytes.{tab};
@@ -106,7 +107,7 @@ fn put_records(w: &[u64], k: usize, out: &mut [u8]) -> usize
     at
 }
 
-// Writes the E line.
+// Writes the E line, which is made of the answer's numbers: so they come as numbers.
 fn put_end(number: u32, beside: u64, out: &mut [u8]) -> usize
     ensures { Wrote (end_line number beside) out.old result out.new }
 {
@@ -116,7 +117,7 @@ fn put_end(number: u32, beside: u64, out: &mut [u8]) -> usize
     c + put(b"\n", &mut out[c..])
 }
 
-// How many records are shown: those of a list that is done; equality and refusals show none.
+// How many records are shown: those of a list that is done; equality and refusals show none. The call is what line O says, so it is a value.
 fn shown(call: Call, answer: Answer, w: &[u64]) -> usize
     ensures { result ≡ shown_of call answer w.now }
 {

@@ -1,9 +1,7 @@
 -- The loops over the walk's stack: one invariant and one turn for counting and for writing.
-use Rattle.std.specs.Prelude.{◌≡◌, refl, List, [], ◌∷◌, ◌++◌, ℕ, suc, ◌+◌, ◌*◌, ◌-◌, ◌≤◌, ◌<◌, length, get_or, take, drop, replicate}
+use Rattle.std.specs.Prelude.{◌≡◌, refl, List, [], ◌∷◌, ◌++◌, ℕ, ◌+◌, ◌*◌, ◌-◌, ◌≤◌, ◌<◌, length, take, drop}
 use Rattle.std.proofs.Common.{sym, ◌∙◌, ap, ap₂, subst, append_assoc, append-nil, arith, length-append, length-drop, drop_of_length-le, take_at, drop_at, take_all, drop-drop}
-use Rattle.std.proofs.lemmas.List.{length-replicate}
 use borrow.Rule.Slice.PartMut.{put_mid, mid_of, post_of}
-use Rattle.defs.specs.declared.Prefix.{Prefix}
 use Rattle.defs.specs.Basics.{each}
 use Rattle.defs.specs.Lists.{Record, words_of, record_words}
 use Rattle.defs.specs.Lemmas.{each_append}
@@ -12,90 +10,63 @@ use Rattle.theory.specs.declared.Step.{Step}
 use Rattle.theory.specs.declared.Step.TheVariants as step
 use Rattle.theory.specs.Steps
 use Rattle.theory.specs.Walk.{LevelOk, StepOk, StepKeeps, step_keeps}
-use Rattle.theory.specs.Stack.{given, stack_after, levels_after, Leaves, stack_rest, stack_cost, Each, after_size, after_each, after_rest, after_cost}
+use Rattle.theory.specs.Stack.{given_after, stack_after, Leaves, stack_rest, stack_cost, after_rest, after_cost}
 
 -- Safe: what code needs of a level; each step keeps it.
-module _ (d : Level) (j : Steps.Job) (Safe : Level → Type 0) (safe-step : (f : Level) → LevelOk j f → Safe f → (k : ℕ) → Leaves (λ i. Safe) k (Steps.step_of j f)) where
-  -- what holds of the level at place i of the stack
+module _ (j : Steps.Job) (Safe : Level → Type 0) (safe-step : (f : Level) → LevelOk j f → Safe f → Leaves Safe (Steps.step_of j f)) where
+  -- what holds of a level that stands on i others
   pub record Standing (i : ℕ) (f : Level) : Type 0 where
     pub ok : LevelOk j f
     pub safe : Safe f
     pub low : 5 * i ≤ f.prefix.len
 
-  leave : (k : ℕ) (f : Level) → Standing k f → (s : Step) → StepOk j f s → Leaves (λ i. Safe) k s → Leaves Standing k s
-  leave k f h step.Up o l = tt
-  leave k f h (step.Skip g) o l = record { ok = o.0; safe = l; low = let b = h.low in omega (arith, ap (λ (p : Prefix). p.len) o.1) }
-  leave k f h (step.Record i g) o l = record { ok = o.0; safe = l; low = let b = h.low in omega (arith, ap (λ (p : Prefix). p.len) o.1) }
-  leave k f h (step.Down g e) o l = (
-    record { ok = o.0; safe = l.0; low = let b = h.low in omega (arith, ap (λ (p : Prefix). p.len) o.1) },
+  -- it holds of each level of a stack
+  abbrev pub Stands : List Level → Type 0
+  Stands [] = Unit {0}
+  Stands (f ∷ ls) = Standing (length ls) f × Stands ls
+
+  leave : (f : Level) (ls : List Level) → Standing (length ls) f → Stands ls → (s : Step) → StepOk j f s → Leaves Safe s → Stands (stack_after s ls)
+  leave f ls h below step.Up o l = below
+  leave f ls h below (step.Skip g) o l = (record { ok = o.0; safe = l; low = rw o.1 h.low }, below)
+  leave f ls h below (step.Record i g) o l = (record { ok = o.0; safe = l; low = rw o.1 h.low }, below)
+  leave f ls h below (step.Down g e) o l = (
     record { ok = o.2; safe = l.1; low = let b = h.low in let c = o.3 in omega arith },
+    (record { ok = o.0; safe = l.0; low = rw o.1 h.low }, below),
   )
 
-  room : (k : ℕ) (f : Level) → Standing k f → k < 13 → (s : Step) → StepOk j f s → levels_after s k ≤ 13
-  room k f h l step.Up o = omega arith
-  room k f h l (step.Skip g) o = omega arith
-  room k f h l (step.Record i g) o = omega arith
-  room k f h l (step.Down g e) o = let b = h.low in let c = o.3 in let m = o.2.depth in omega arith
+  -- `done` of the whole list is given, and the stack has the rest
+  pub record Walking (ls : List Level) (done whole : List Record) : Type 0 where
+    pub levels : Stands ls
+    pub all : done ++ stack_rest j ls ≡ whole
 
-  -- n levels of the stack are in use, and `done` of the whole list is given
-  pub record Walking (n : ℕ) (ls : List Level) (done whole : List Record) : Type 0 where
-    pub size : length ls ≡ 13
-    pub deep : n ≤ 13
-    pub levels : Each d Standing n ls
-    pub all : done ++ stack_rest d j n ls ≡ whole
+  pub begin : (f : Level) → LevelOk j f → Safe f → Walking (f ∷ []) [] (Steps.level_rest j f)
+  begin f o s = record { levels = (record { ok = o; safe = s; low = omega arith }, tt); all = append-nil (Steps.level_rest j f) }
 
-  pub begin : (f : Level) → LevelOk j f → Safe f → Walking 1 (replicate 13 f) [] (Steps.level_rest j f)
-  begin f o s =
-      record {
-        size = length-replicate 13 f;
-        deep = omega arith;
-        levels = λ i l. let z : i ≡ 0 = omega arith in subst (λ (n : ℕ). Standing n (get_or (replicate 13 f) n d)) (sym z) (record { ok = o; safe = s; low = omega arith });
-        all = append-nil (Steps.level_rest j f);
-      }
+  -- 13 levels are enough
+  pub roomy : (f : Level) (ls : List Level) (done whole : List Record) → Walking (f ∷ ls) done whole → length ls < 13
+  roomy f ls done whole w = let b = w.levels.0.low in let d = w.levels.0.ok.depth in omega arith
 
-  -- a turn: the step at the highest level in use
-  module _ (k : ℕ) (ls : List Level) (done whole : List Record) (w : Walking (suc k) ls done whole) (s : Step) (is : s ≡ Steps.step_of j (get_or ls k d)) where
-    abbrev top : Level
-    top = get_or ls k d
+  -- a turn: the step at the highest level
+  module _ (f : Level) (ls : List Level) (done whole : List Record) (w : Walking (f ∷ ls) done whole) (s : Step) (is : s ≡ Steps.step_of j f) where
+    keeps : StepKeeps j f s
+    keeps = subst (StepKeeps j f) (sym is) (step_keeps j f w.levels.0.ok)
 
-    standing : Standing k top
-    standing = w.levels k (omega arith)
-
-    keeps : StepKeeps j top s
-    keeps = subst (StepKeeps j top) (sym is) (step_keeps j top standing.ok)
-
-    inside : k < length ls
-    inside = let a = w.deep in let b = w.size in omega arith
-
-    after : levels_after s k ≤ 13
-    after = room k top standing (let a = w.deep in omega arith) s keeps.stays_ok
-
-    after' : levels_after s k ≤ length ls
-    after' = let a = after in let b = w.size in omega arith
-
-    -- a level below the top, where the step goes down, finds room
-    pub has_room : levels_after s k ≤ 13
-    has_room = after
-
-    pub turn : Walking (levels_after s k) (stack_after s k ls) (done ++ given s) whole
+    pub turn : Walking (stack_after s ls) (given_after s done) whole
     turn =
         record {
-          size = after_size d j k ls inside s ∙ w.size;
-          deep = after;
-          levels = after_each d j k ls inside Standing s after' w.levels
-              (leave k top standing s keeps.stays_ok (subst (Leaves (λ i. Safe) k) (sym is) (safe-step top standing.ok standing.safe k)));
-          all = append_assoc done (given s) _ ∙ ap (done ++◌) (sym (after_rest d j k ls inside s after' keeps.rest)) ∙ w.all;
+          levels = leave f ls w.levels.0 w.levels.1 s keeps.stays_ok (subst (Leaves Safe) (sym is) (safe-step f w.levels.0.ok w.levels.0.safe));
+          all = after_rest j f ls done s keeps.rest ∙ w.all;
         }
 
-    pub fewer : stack_cost d (levels_after s k) (stack_after s k ls) < stack_cost d (suc k) ls
-    fewer = after_cost d j k ls inside s after' keeps.fewer
+    pub fewer : stack_cost (stack_after s ls) < stack_cost (f ∷ ls)
+    fewer = after_cost f ls s keeps.fewer
 
-    -- what is given does not outgrow the whole
-    pub within : length done + length (given s) ≤ length whole
-    within = omega (arith, length-append (done ++ given s) (stack_rest d j (levels_after s k) (stack_after s k ls)), length-append done (given s), ap length turn.all)
+  -- what is given does not outgrow the whole
+  pub within : (ls : List Level) (done whole : List Record) → Walking ls done whole → length done ≤ length whole
+  within ls done whole w = omega (arith, length-append done (stack_rest j ls), ap length w.all)
 
-  pub finished : (ls : List Level) (done whole : List Record) → Walking 0 ls done whole → done ≡ whole
-  finished ls done whole w = sym (append-nil done) ∙ w.all
+  pub finished : (done whole : List Record) → Walking [] done whole → done ≡ whole
+  finished done whole w = sym (append-nil done) ∙ w.all
 
 -- ---- records as words
 

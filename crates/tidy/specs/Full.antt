@@ -1,5 +1,5 @@
 -- The children of a node that hold something: the loop over the child bits that are set, lowest first.
-use Rattle.std.specs.Prelude.{◌≡◌, Bool, true, false, not, ◌&&◌, List, ℕ, zero, suc, ◌+◌, ◌-◌, ◌*◌, ◌/◌, ◌%◌, ◌^◌, ◌≤◌, ◌<◌, eqb, leb}
+use Rattle.std.specs.Prelude.{◌≡◌, Bool, true, false, not, ◌&&◌, List, ℕ, zero, suc, ◌+◌, ◌*◌, ◌/◌, ◌%◌, ◌^◌, ◌≤◌, ◌<◌, eqb, leb}
 use Rattle.std.proofs.Math.Path.{refl, sym, ap}
 use Rattle.std.proofs.Common.{ap₂, ◌∙◌, subst, lt_of_lt_of_le, mod-lt, pow_mono, leb-true, leb-false, eqb-true, eq-eqb, ne_eqb}
 use native.Mathlib.Omega.{arith}
@@ -11,9 +11,9 @@ use Rattle.defs.specs.Pool.{node_count, child_of, first_child, bit, rank}
 use Rattle.defs.specs.Tidy.{word_of}
 use Rattle.defs.specs.Lemmas.{split, not_both}
 use Rattle.bits.specs.WordLaws.{bit_zero, bit_suc, bit_none, rank_suc}
-use Rattle.bits.specs.Worked.{one_shl}
+use Rattle.bits.specs.SetBits.{Taken, lowest_inside}
 use Rattle.view.specs.Standing.{Sane, nodes_few, child_inside}
-use Rattle.view.specs.Spreads.{one, Lowly, lowly}
+use Rattle.view.specs.Spreads.{one, apart}
 use Rattle.view.specs.Kept.{word_more, word_below}
 use Rattle.view.specs.Emptiness.{empty_at}
 
@@ -84,32 +84,26 @@ module _ (w : List ℕ) (s : Sane w) (levels i : ℕ) (h : i < node_count w) whe
   asking_start left node f e n =
       record { gone = 0; within = omega arith; small = f; below = λ c l. absurd (let z : ⊥ = omega arith in z); same = λ c l. ap (bit c) e; number = omega arith; so_far = refl }
 
-  module _ (left node word : ℕ) (some : 0 < left) (k : Asking w levels i left node word) where
-    abbrev z : ℕ
-    z = count_trailing_zeros 32 left
-
-    low : Lowly 32 left
-    low = lowly 32 left some k.small
+  module _ (left node word z rest : ℕ) (k : Asking w levels i left node word) (n : Taken left z rest) where
+    fits : left < 2 ^ 64
+    fits = omega (arith, k.small)
 
     pub asking_bit : z < 32
-    asking_bit = low.inside
+    asking_bit = lowest_inside left z rest fits n 32 k.small
 
-    pub asking_there : 2 ^ z ≤ left
-    asking_there = low.part
+    none_below : (c : ℕ) → c < z → bit c left ≡ false
+    none_below c l = zeros_below 64 left c (rw n.1 at l)
 
-    pub asking_shift : 1 * 2 ^ z % 2 ^ 32 ≡ 2 ^ z
-    asking_shift = one_shl 32 z asking_bit
-
-    lowest : (bit z left ≡ true) × (bit z (left - 2 ^ z) ≡ false)
-    lowest = go (bit z left) (bit z (left - 2 ^ z)) (rw (eq-eqb z z refl) at (low.apart z))
+    lowest : (bit z left ≡ true) × (bit z rest ≡ false)
+    lowest = go (bit z left) (bit z rest) (rw (eq-eqb z z refl) at (apart left z rest fits n z))
       where
         go : (a b : Bool) → one a ≡ 1 + one b → (a ≡ true) × (b ≡ false)
         go true false e = (refl, refl)
         go true true e = absurd (let y : ⊥ = omega arith in y)
         go false b e = absurd (let y : ⊥ = omega arith in y)
 
-    other : (c : ℕ) → (c ≡ z → ⊥) → bit c left ≡ bit c (left - 2 ^ z)
-    other c n = go (bit c left) (bit c (left - 2 ^ z)) (rw (ne_eqb c z n) at (low.apart c))
+    other : (c : ℕ) → (c ≡ z → ⊥) → bit c left ≡ bit c rest
+    other c m = go (bit c left) (bit c rest) (rw (ne_eqb c z m) at (apart left z rest fits n c))
       where
         go : (a b : Bool) → one a ≡ 0 + one b → a ≡ b
         go true true e = refl
@@ -124,7 +118,7 @@ module _ (w : List ℕ) (s : Sane w) (levels i : ℕ) (h : i < node_count w) whe
     set = sym (k.same z ahead) ∙ lowest.0
 
     skipped : Skipped x t unset k.gone z
-    skipped = skip x t unset k.gone z ahead (λ c a l. sym (k.same c a) ∙ zeros_below 32 left c l)
+    skipped = skip x t unset k.gone z ahead (λ c a l. sym (k.same c a) ∙ none_below c l)
 
     number_is : node ≡ first_child w i + rank z x
     number_is = k.number ∙ ap (first_child w i +◌) (sym skipped.ranks)
@@ -138,23 +132,22 @@ module _ (w : List ℕ) (s : Sane w) (levels i : ℕ) (h : i < node_count w) whe
     pub asking_word : word < 2 ^ z
     asking_word = rw k.so_far (lt_of_lt_of_le (word_below t k.gone) (pow_mono ahead))
 
-    pub asking_on : (b : Bool) → b ≡ not (empty_at w levels node) → (r : ℕ) → r ≡ word + one b * 2 ^ z → Asking w levels i (left - 2 ^ z) (node + 1) r
+    pub asking_on : (b : Bool) → b ≡ not (empty_at w levels node) → (r : ℕ) → r ≡ word + one b * 2 ^ z → Asking w levels i rest (node + 1) r
     asking_on b eb r er =
         let here : t z ≡ b = rw set (ap (λ (m : ℕ). not (empty_at w levels m)) (sym number_is) ∙ sym eb) in
         let odd = eqb-true (x / 2 ^ z % 2) 1 set in
         record {
           gone = suc z;
           within = omega (arith, asking_bit);
-          small = omega (arith, k.small);
-          below = λ c l. split (eqb c z) (λ e. ap (λ (m : ℕ). bit m (left - 2 ^ z)) (eqb-true c z e) ∙ lowest.1)
-              (λ e. let n = eqb-false c z e in sym (other c n) ∙ zeros_below 32 left c (omega arith));
+          small = omega (arith, k.small, n.2);
+          below = λ c l. split (eqb c z) (λ e. ap (λ (m : ℕ). bit m rest) (eqb-true c z e) ∙ lowest.1)
+              (λ e. let d = eqb-false c z e in sym (other c d) ∙ none_below c (omega arith));
           same = λ c l. sym (other c (λ e. omega arith)) ∙ k.same c (let a = ahead in omega arith);
           number = omega (arith, number_is, rank_suc z x);
           so_far = er ∙ ap₂ (λ (m : ℕ) (y : Bool). m + one y * 2 ^ z) (k.so_far ∙ sym skipped.words) (sym here) ∙ sym (word_more t z);
         }
 
-  pub asking_end : (left node word : ℕ) → left ≤ 0 → Asking w levels i left node word → word ≡ full_kids w levels i
+  pub asking_end : (left node word : ℕ) → left ≡ 0 → Asking w levels i left node word → word ≡ full_kids w levels i
   unfolding full_kids
-  asking_end left node word l k =
-      let z : left ≡ 0 = omega arith in
+  asking_end left node word z k =
       k.so_far ∙ sym (skip x t unset k.gone 32 k.within (λ c a b. sym (k.same c a) ∙ ap (bit c) z ∙ bit_none 0 c 0 (omega arith) (omega arith))).words

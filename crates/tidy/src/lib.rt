@@ -50,9 +50,8 @@ fn is_full(side: Side<'_>, node: u32, levels: u32) -> bool
 {
     let mut from = node;
     let mut to = node + 1;
-    let mut left = levels;
-    while from < to {
-        if left == 0 {
+    for level in 0..levels {
+        if from == to {
             return false;
         }
         if !is_blank(side.words, from, to) {
@@ -60,7 +59,6 @@ fn is_full(side: Side<'_>, node: u32, levels: u32) -> bool
         }
         from = kids_from(side, from);
         to = kids_from(side, to);
-        left -= 1;
     }
     false
 }
@@ -83,7 +81,7 @@ fn kid_is_used(side: Side<'_>, i: u32, p: Prefix, c: u32) -> bool
     bits::leads(q, side.root) && !side.view_is_empty()
 }
 
-// The child bitmap that a node of prefix p has in the tidy pool.
+// The child bitmap that a node of prefix p has in the tidy pool. A loop of its own beside that of `kept_places`, which asks of data places and goes by the node's bits.
 fn used_kids(side: Side<'_>, i: u32, p: Prefix) -> u32
     requires { Here side.words.now side.root i p }
     ensures { result ≡ kids_on side.entry.words.now side.entry.root i }
@@ -100,13 +98,11 @@ fn full_kids(side: Side<'_>, i: u32, levels: u32) -> u32
     requires { i < node_count side.words.now }
     ensures { result ≡ full_kids side.entry.words.now levels i }
 {
-    let mut left = pool::child_bits(side.words, i as usize);
+    let held = pool::child_bits(side.words, i as usize);
     let mut node = pool::first_child(side.words, i as usize);
     let mut word: u32 = 0;
-    while left > 0 {
-        let c = u32::trailing_zeros(left);
+    for c in bits::set_bits(u64::from(held)) {
         word = view::with_bit(word, c, is_full(side, node, levels));
-        left -= 1 << c;
         node += 1;
     }
     word
@@ -275,7 +271,8 @@ fn put_all(values: &mut [u32], first: u32, count: u32)
     }
 }
 
-// The old value index of each kept data bit, bit by bit: values are counted by all data bits that the source node has.
+// The old value index of each kept data bit, bit by bit: values are counted by all data bits that the source node has. Here and in `write` the place in a
+// buffer is a number beside it, since a proof knows no element of what an iterator has lent that gives parts of the buffer.
 fn put_some(values: &mut [u32], held: u32, first: u32, kept: u32)
     requires { (ones kept ≤ length values.old) × (first + 32 < 2 ^ 32) }
     ensures { values.new ≡ over (values_from held first kept 31) values.old }
@@ -366,7 +363,8 @@ pub fn checked<'a>(width: u32, words: &'a [u32], root: Prefix) -> Result<Side<'a
     Ok(Side { words, root })
 }
 
-// The tidy pool of the view at a root, and beside it the old value index of each new one: how many nodes it has, or a refusal. Both sizes are
+// The tidy pool of the view at a root, and beside it the old value index of each new one: how many nodes it has, or a refusal. Public, over words
+// that are no Side yet. Both sizes are
 // known before the first write.
 pub fn tidy(
     width: u32,

@@ -1,8 +1,7 @@
 -- Coverage: the places of a node at or below its entries.
-use Rattle.std.specs.Prelude.{◌≡◌, refl, Bool, true, false, ◌&&◌, ◌||◌, List, [], ◌∷◌, ℕ, zero, suc, ◌+◌, ◌-◌, ◌*◌, ◌/◌, ◌%◌, ◌^◌, ◌≤◌, ◌<◌, max, eqb, length, get_or}
+use Rattle.std.specs.Prelude.{◌≡◌, refl, Bool, true, false, ◌&&◌, ◌||◌, List, [], ◌∷◌, ℕ, zero, suc, ◌+◌, ◌*◌, ◌/◌, ◌%◌, ◌^◌, ◌≤◌, ◌<◌, max, eqb, length, get_or}
 use Rattle.std.proofs.Common.{sym, ap, ap₂, ◌∙◌, ⊎_elim, arith, not-suc-le-zero, le_of_suc-le-suc, eq-or-lt_of_le, length-append, pow_pos, pow_mono, eqb-true, ne_eqb}
 use Rattle.std.specs.Int.Bits.{bit_or, or_step}
-use Rattle.std.specs.Int.Count.{count_trailing_zeros, count_leading_zeros}
 use Rattle.std.proofs.Math.ListN.{get_or-append}
 use Rattle.std.proofs.lemmas.List.{get_or_at}
 use Rattle.defs.specs.Basics.{up_to}
@@ -13,11 +12,11 @@ use Rattle.defs.specs.Lemmas.{All, nil, more, all_imp, all_append, and_left, and
 use Rattle.bits.specs.Places.{place_len, place_value}
 use Rattle.bits.specs.PlaceLaws.{place_len_lem, place_value_lem, place_len_below, made}
 use Rattle.bits.specs.WordLaws.{bit_none}
-use Rattle.bits.specs.Worked.{one_shl}
+use Rattle.bits.specs.SetBits.{Taken, lowest_inside}
 use Rattle.theory.specs.Steps.{place_bit}
 use Rattle.theory.specs.Unwanted.{InNode}
 use Rattle.view.specs.declared.Coverage.{Coverage}
-use Rattle.view.specs.Spreads.{below_all, below_at, bit_first, bit_later, eqb_suc, lowly, one, word_on}
+use Rattle.view.specs.Spreads.{below_all, below_at, bit_first, bit_later, eqb_suc, apart, one, word_on}
 
 -- some entry of a data bitmap stands above the n bits of value v
 abbrev pub covered_bits : ℕ → ℕ → ℕ → Bool
@@ -44,10 +43,6 @@ coverage_of k = words_of (covered_by k)
 -- what one or the other covers
 abbrev pub join_of : Coverage → Coverage → Coverage
 join_of a b = record { «data» = bit_or a.data b.data; child = bit_or a.child b.child }
-
--- the word of four bytes, lowest first
-abbrev pub bytes_at : List ℕ → ℕ → ℕ
-bytes_at t at = get_or t at 0 + 256 * get_or t (at + 1) 0 + 65536 * get_or t (at + 2) 0 + 16777216 * get_or t (at + 3) 0
 
 -- ---- words of tests
 
@@ -219,57 +214,45 @@ pub record Covering (whole left : ℕ) (r : Coverage) : Type 0 where
 pub covering_start : (whole : ℕ) → whole < 2 ^ 32 → Covering whole whole (record { «data» = 0; child = 0 })
 covering_start whole h = record { small = h; done = λ _. false; so_far = nothing_is; parts = λ x. refl }
 
-module _ (whole left : ℕ) (r : Coverage) (k : Covering whole left r) (some : 0 < left) where
-  pub covering_bit : count_trailing_zeros 32 left < 32
-  covering_bit = (lowly 32 left some k.small).inside
+module _ (whole left z rest : ℕ) (r : Coverage) (k : Covering whole left r) (n : Taken left z rest) where
+  fits : left < 2 ^ 64
+  fits = omega (arith, k.small)
 
-  pub covering_there : 2 ^ count_trailing_zeros 32 left ≤ left
-  covering_there = (lowly 32 left some k.small).part
+  pub covering_bit : z < 32
+  covering_bit = lowest_inside left z rest fits n 32 k.small
 
-  pub covering_shift : 1 * 2 ^ count_trailing_zeros 32 left % 2 ^ 32 ≡ 2 ^ count_trailing_zeros 32 left
-  covering_shift = one_shl 32 (count_trailing_zeros 32 left) covering_bit
-
-  pub covering_on : (b s : Coverage) → b ≡ coverage_of (2 ^ count_trailing_zeros 32 left) → s ≡ join_of r b → Covering whole (left - 2 ^ count_trailing_zeros 32 left) s
+  pub covering_on : (b s : Coverage) → b ≡ coverage_of (2 ^ z) → s ≡ join_of r b → Covering whole rest s
   covering_on b s eb es =
-      let z = count_trailing_zeros 32 left in
-      let a = (lowly 32 left some k.small).apart in
-      let h : (c : ℕ) → bit c left ≡ (bit c (2 ^ z) || bit c (left - 2 ^ z)) =
-      λ c. one_or (bit c left) (eqb c z) (bit c (left - 2 ^ z)) (a c) ∙ ap (◌|| bit c (left - 2 ^ z)) (sym (bit_power c z)) in
+      let a = apart left z rest fits n in
+      let h : (c : ℕ) → bit c left ≡ (bit c (2 ^ z) || bit c rest) =
+      λ c. one_or (bit c left) (eqb c z) (bit c rest) (a c) ∙ ap (◌|| bit c rest) (sym (bit_power c z)) in
       record {
-        small = omega (arith, k.small);
+        small = omega (arith, k.small, n.2);
         done = λ x. k.done x || covered_by (2 ^ z) x;
         so_far = es ∙ ap₂ join_of k.so_far eb ∙ words_or k.done (covered_by (2 ^ z));
-        parts = λ x. k.parts x ∙ ap (k.done x ||◌) (by_split left (2 ^ z) (left - 2 ^ z) h x) ∙ or_join (k.done x) (covered_by (2 ^ z) x) (covered_by (left - 2 ^ z) x);
+        parts = λ x. k.parts x ∙ ap (k.done x ||◌) (by_split left (2 ^ z) rest h x) ∙ or_join (k.done x) (covered_by (2 ^ z) x) (covered_by rest x);
       }
 
-pub covering_end : (whole left : ℕ) (r : Coverage) → Covering whole left r → left ≤ 0 → r ≡ coverage_of whole
-covering_end whole left r k l =
-    let z : left ≡ 0 = omega arith in
+pub covering_end : (whole left : ℕ) (r : Coverage) → Covering whole left r → left ≡ 0 → r ≡ coverage_of whole
+covering_end whole left r k z =
     let e : (x : Place) → k.done x ≡ covered_by whole x =
     λ x. sym (k.parts x ∙ ap (λ (n : ℕ). k.done x || covered_by n x) z ∙ ap (k.done x ||◌) (by_none x) ∙ or_none (k.done x)) in
     let f : ◌≡◌ {A = Place → Bool} k.done (covered_by whole) = λ i. λ x. e x i in
     k.so_far ∙ ap words_of f
 
--- ---- what each entry covers, as bytes
+-- ---- what each entry covers, as a table
 
-unfoldable pub held_bytes : List ℕ
-held_bytes = 255 ∷ 255 ∷ 255 ∷ 127 ∷ 154 ∷ 135 ∷ 127 ∷ 0 ∷ 100 ∷ 120 ∷ 128 ∷ 127 ∷ 136 ∷ 129 ∷ 7 ∷ 0 ∷ 16 ∷ 6 ∷ 120 ∷ 0 ∷ 32 ∷ 24 ∷ 128 ∷ 7 ∷ 64 ∷ 96 ∷ 0 ∷ 120 ∷ 128 ∷ 128 ∷ 1 ∷ 0 ∷ 0 ∷ 1 ∷ 6 ∷ 0 ∷ 0 ∷ 2 ∷ 24 ∷ 0 ∷ 0 ∷ 4 ∷ 96 ∷ 0 ∷ 0 ∷ 8 ∷ 128 ∷ 1 ∷ 0 ∷ 16 ∷ 0 ∷ 6 ∷ 0 ∷ 32 ∷ 0 ∷ 24 ∷ 0 ∷ 64 ∷ 0 ∷ 96 ∷ 0 ∷ 128 ∷ 0 ∷ 0 ∷ 0 ∷ 0 ∷ 1 ∷ 0 ∷ 0 ∷ 0 ∷ 2 ∷ 0 ∷ 0 ∷ 0 ∷ 4 ∷ 0 ∷ 0 ∷ 0 ∷ 8 ∷ 0 ∷ 0 ∷ 0 ∷ 16 ∷ 0 ∷ 0 ∷ 0 ∷ 32 ∷ 0 ∷ 0 ∷ 0 ∷ 64 ∷ 0 ∷ 0 ∷ 0 ∷ 128 ∷ 0 ∷ 0 ∷ 0 ∷ 0 ∷ 1 ∷ 0 ∷ 0 ∷ 0 ∷ 2 ∷ 0 ∷ 0 ∷ 0 ∷ 4 ∷ 0 ∷ 0 ∷ 0 ∷ 8 ∷ 0 ∷ 0 ∷ 0 ∷ 16 ∷ 0 ∷ 0 ∷ 0 ∷ 32 ∷ 0 ∷ 0 ∷ 0 ∷ 64 ∷ 0 ∷ 0 ∷ 0 ∷ 0 ∷ []
+-- row z of a table is what the entry of data bit z covers
+unfoldable pub covers_right : List Coverage → ℕ → Bool
+covers_right t z =
+    let r = get_or t z (record { «data» = 0; child = 0 }) in
+    eqb r.data (coverage_of (2 ^ z)).data && eqb r.child (coverage_of (2 ^ z)).child
 
-unfoldable pub kid_bytes : List ℕ
-kid_bytes = 255 ∷ 255 ∷ 255 ∷ 255 ∷ 255 ∷ 255 ∷ 0 ∷ 0 ∷ 0 ∷ 0 ∷ 255 ∷ 255 ∷ 255 ∷ 0 ∷ 0 ∷ 0 ∷ 0 ∷ 255 ∷ 0 ∷ 0 ∷ 0 ∷ 0 ∷ 255 ∷ 0 ∷ 0 ∷ 0 ∷ 0 ∷ 255 ∷ 15 ∷ 0 ∷ 0 ∷ 0 ∷ 240 ∷ 0 ∷ 0 ∷ 0 ∷ 0 ∷ 15 ∷ 0 ∷ 0 ∷ 0 ∷ 240 ∷ 0 ∷ 0 ∷ 0 ∷ 0 ∷ 15 ∷ 0 ∷ 0 ∷ 0 ∷ 240 ∷ 0 ∷ 0 ∷ 0 ∷ 0 ∷ 15 ∷ 0 ∷ 0 ∷ 0 ∷ 240 ∷ 3 ∷ 0 ∷ 0 ∷ 0 ∷ 12 ∷ 0 ∷ 0 ∷ 0 ∷ 48 ∷ 0 ∷ 0 ∷ 0 ∷ 192 ∷ 0 ∷ 0 ∷ 0 ∷ 0 ∷ 3 ∷ 0 ∷ 0 ∷ 0 ∷ 12 ∷ 0 ∷ 0 ∷ 0 ∷ 48 ∷ 0 ∷ 0 ∷ 0 ∷ 192 ∷ 0 ∷ 0 ∷ 0 ∷ 0 ∷ 3 ∷ 0 ∷ 0 ∷ 0 ∷ 12 ∷ 0 ∷ 0 ∷ 0 ∷ 48 ∷ 0 ∷ 0 ∷ 0 ∷ 192 ∷ 0 ∷ 0 ∷ 0 ∷ 0 ∷ 3 ∷ 0 ∷ 0 ∷ 0 ∷ 12 ∷ 0 ∷ 0 ∷ 0 ∷ 48 ∷ 0 ∷ 0 ∷ 0 ∷ 192 ∷ 0 ∷ 0 ∷ 0 ∷ 0 ∷ []
-
-rightly : ℕ → Bool
-rightly z =
-    eqb (bytes_at held_bytes (4 * z)) (coverage_of (2 ^ z)).data && eqb (bytes_at kid_bytes (4 * z)) (coverage_of (2 ^ z)).child
-
-bytes_right : below_all rightly 32 ≡ true
-unfolding held_bytes kid_bytes rightly words_of place_len place_value count_leading_zeros
-bytes_right = refl
-
-pub bit_covers : (z d c : ℕ) → z < 32 → d ≡ bytes_at held_bytes (4 * z) → c ≡ bytes_at kid_bytes (4 * z) → record { «data» = d; child = c } ≡ coverage_of (2 ^ z)
-unfolding rightly
-bit_covers z d c h ed ec =
-    let e = below_at rightly 32 bytes_right z h in
-    let a = ed ∙ eqb-true _ _ (and_left _ _ e) in
-    let b = ec ∙ eqb-true _ _ (and_right (eqb (bytes_at held_bytes (4 * z)) (coverage_of (2 ^ z)).data) _ e) in
+pub bit_covers : (t : List Coverage) → below_all (covers_right t) 32 ≡ true → (z : ℕ) → z < 32 → get_or t z (record { «data» = 0; child = 0 }) ≡ coverage_of (2 ^ z)
+unfolding covers_right
+bit_covers t right z h =
+    let e = below_at (covers_right t) 32 right z h in
+    let r = get_or t z (record { «data» = 0; child = 0 }) in
+    let a = eqb-true r.data (coverage_of (2 ^ z)).data (and_left _ _ e) in
+    let b = eqb-true r.child (coverage_of (2 ^ z)).child (and_right (eqb r.data (coverage_of (2 ^ z)).data) _ e) in
     λ i. record { «data» = a i; child = b i }

@@ -13,9 +13,10 @@ use Rattle.bits.specs.PlaceLaws.{made, data_place_lem, place_len_below}
 use Rattle.bits.specs.WordLaws.{bit_none, select, rank_less}
 use Rattle.pool.specs.Sound.{data_small}
 use Rattle.theory.specs.Unwanted.{InNode, places_in_node}
+use Rattle.view.specs.declared.TheConstants.{POSITIONS}
 use Rattle.view.specs.Standing.{Sane, nodes_few, child_inside}
 use Rattle.view.specs.Numbers.{number_of, place_at, place_inside, numbered, all_at}
-use Rattle.view.specs.Spreads.{code_of, positions, position_right, below_all, below_at, word_on}
+use Rattle.view.specs.Spreads.{code_of, stands_right, position_right, below_all, below_at, word_on}
 use Rattle.view.specs.Covered.{up_below}
 use Rattle.view.specs.Kept.{bits_back}
 use Rattle.theory.specs.Walk.{places_length}
@@ -80,11 +81,15 @@ same_code x y i j e =
     let l = ltb-false (number_of x) 32 t in
     a.is_child l ∙ ap (λ (h : ℕ). child_place (h - 32)) n ∙ sym (b.is_child (omega arith)))
 
+table_right : below_all (stands_right POSITIONS) 63 ≡ true
+unfolding stands_right places
+table_right = refl
+
 coded : ℕ → Bool
-coded z = eqb (code_of (place_at (get_or positions z 0))) z
+coded z = eqb (code_of (place_at (get_or POSITIONS z 0))) z
 
 codes_right : below_all coded 63 ≡ true
-unfolding coded positions places
+unfolding coded places
 codes_right = refl
 
 code_below : (x : Place) → InNode x → code_of x < 63
@@ -95,9 +100,9 @@ unfolding coded
 place_all {P} a x i =
     let z = code_of x in
     let l = code_below x i in
-    let s = (position_right z l).0 in
-    let e = same_code (place_at (get_or positions z 0)) x (place_inside (get_or positions z 0) s) i (eqb-true _ _ (below_at coded 63 codes_right z l)) in
-    subst P e (all_at a (child_place 0) (get_or positions z 0) (omega (arith, places_length)))
+    let s = (position_right POSITIONS table_right z l _ refl).0 in
+    let e = same_code (place_at (get_or POSITIONS z 0)) x (place_inside (get_or POSITIONS z 0) s) i (eqb-true _ _ (below_at coded 63 codes_right z l)) in
+    subst P e (all_at a (child_place 0) (get_or POSITIONS z 0) (omega (arith, places_length)))
 
 -- ---- a node and its children
 

@@ -11,8 +11,9 @@ use Rattle.defs.specs.Tidy.{word_of}
 use Rattle.defs.specs.Lemmas.{All, nil, more, split, and_left, and_right}
 use Rattle.bits.specs.WordLaws.{bit_zero, bit_suc}
 use Rattle.bits.specs.Worked.{one_shl}
+use Rattle.bits.specs.SetBits.{Taken, lowest_inside}
 use Rattle.theory.specs.Steps.{place_bit}
-use Rattle.theory.specs.Todo.{word_lt, lowest}
+use Rattle.theory.specs.Todo.{word_lt}
 use Rattle.theory.specs.Unwanted.{InNode, places_in_node}
 use Rattle.theory.specs.Walk.{places_length}
 use Rattle.theory.specs.Todo.{zeros_odd, zeros_even}
@@ -113,23 +114,14 @@ lowly (suc k) t h b =
           apart = λ c. rw (zeros_even k m) (low_even (count_trailing_zeros k m) m c r.part r.apart);
         }
 
--- FOR THE LOOP: the lowest bit's place alone, and the word of the others
-pub record Lowest-place (t : ℕ) : Type 0 where
-  pub inside : count_trailing_zeros 64 t < 63
-  pub there : 2 ^ count_trailing_zeros 64 t ≤ t
-  pub parts : spread_of t ≡ alone_of (count_trailing_zeros 64 t) + spread_of (t - 2 ^ count_trailing_zeros 64 t)
+module _ (t z rest : ℕ) (fits : t < 2 ^ 64) (n : Taken t z rest) where
+  -- FOR THE LOOPS OVER SET BITS: every bit but the one that is taken is still there
+  pub apart : (c : ℕ) → one (bit c t) ≡ one (eqb c z) + one (bit c rest)
+  apart c = rw (n.2, n.1) ((lowly 64 t n.0 fits).apart c)
 
-pub lowest_place : (t : ℕ) → 0 < t → t < 2 ^ 63 → Lowest-place t
-lowest_place t h b =
-    let n = places_length in
-    let z = count_trailing_zeros 64 t in
-    let w = lowest 64 t places (child_place 0) h (rw n b) (omega arith) in
-    let r = lowly 64 t h (omega arith) in
-    record {
-      inside = omega (arith, w.inside);
-      there = r.part;
-      parts = word_sum (λ x. bit (code_of x) t) (λ x. eqb (code_of x) z) (λ x. bit (code_of x) (t - 2 ^ z)) (λ x. r.apart (code_of x)) places;
-    }
+  -- the place of the bit that is taken alone, and the word of the others
+  parted : spread_of t ≡ alone_of z + spread_of rest
+  parted = word_sum (λ x. bit (code_of x) t) (λ x. eqb (code_of x) z) (λ x. bit (code_of x) rest) (λ x. apart (code_of x)) places
 
 pub spread_small : (t : ℕ) → spread_of t < 2 ^ 63
 spread_small t = subst (λ (n : ℕ). spread_of t < 2 ^ n) places_length (word_lt (λ x. bit (code_of x) t) places)
@@ -164,10 +156,6 @@ spread_both d c = sym (word_on (place_bit d c) (λ x. bit (code_of x) (both_of d
 
 -- ---- where each bit's place stands
 
--- where the place of each bit of a node stands in prefix order
-unfoldable pub positions : List ℕ
-positions = 0 ∷ 1 ∷ 32 ∷ 2 ∷ 17 ∷ 33 ∷ 48 ∷ 3 ∷ 10 ∷ 18 ∷ 25 ∷ 34 ∷ 41 ∷ 49 ∷ 56 ∷ 4 ∷ 7 ∷ 11 ∷ 14 ∷ 19 ∷ 22 ∷ 26 ∷ 29 ∷ 35 ∷ 38 ∷ 42 ∷ 45 ∷ 50 ∷ 53 ∷ 57 ∷ 60 ∷ 5 ∷ 6 ∷ 8 ∷ 9 ∷ 12 ∷ 13 ∷ 15 ∷ 16 ∷ 20 ∷ 21 ∷ 23 ∷ 24 ∷ 27 ∷ 28 ∷ 30 ∷ 31 ∷ 36 ∷ 37 ∷ 39 ∷ 40 ∷ 43 ∷ 44 ∷ 46 ∷ 47 ∷ 51 ∷ 52 ∷ 54 ∷ 55 ∷ 58 ∷ 59 ∷ 61 ∷ 62 ∷ []
-
 -- a test passes at every number below n
 abbrev pub below_all : (ℕ → Bool) → ℕ → Bool
 below_all f zero = true
@@ -178,18 +166,15 @@ below_at f zero e z h = absurd (not-suc-le-zero h)
 below_at f (suc n) e z h =
     ⊎_elim (λ i. rw i (and_left (f n) (below_all f n) e)) (λ l. below_at f n (and_right (f n) (below_all f n) e) z l) (eq-or-lt_of_le (le_of_suc-le-suc h))
 
-rightly : ℕ → Bool
-rightly z = ltb (get_or positions z 0) 63 && eqb (2 ^ get_or positions z 0) (alone_of z)
+-- row z of a table is where the place of bit z stands
+unfoldable pub stands_right : List ℕ → ℕ → Bool
+stands_right t z = ltb (get_or t z 0) 63 && eqb (2 ^ get_or t z 0) (alone_of z)
 
-table_right : below_all rightly 63 ≡ true
-unfolding positions rightly places
-table_right = refl
-
-pub position_right : (z : ℕ) → z < 63 → (get_or positions z 0 < 63) × (2 ^ get_or positions z 0 ≡ alone_of z)
-unfolding rightly
-position_right z h =
-    let e = below_at rightly 63 table_right z h in
-    (ltb-true _ _ (and_left _ _ e), eqb-true _ _ (and_right (ltb (get_or positions z 0) 63) _ e))
+pub position_right : (t : List ℕ) → below_all (stands_right t) 63 ≡ true → (z : ℕ) → z < 63 → (r : ℕ) → r ≡ get_or t z 0 → (r < 63) × (2 ^ r ≡ alone_of z)
+unfolding stands_right
+position_right t right z h r e =
+    let b = below_at (stands_right t) 63 right z h in
+    rw e (ltb-true _ _ (and_left _ _ b), eqb-true _ _ (and_right (ltb (get_or t z 0) 63) _ b))
 
 -- ---- the loop: what is written and what is left make up the whole
 
@@ -197,38 +182,29 @@ pub record Spreading (whole left word : ℕ) : Type 0 where
   pub small : left < 2 ^ 63
   pub parts : word + spread_of left ≡ spread_of whole
 
-module _ (whole left word : ℕ) (k : Spreading whole left word) (some : 0 < left) where
+module _ (whole left word z rest : ℕ) (k : Spreading whole left word) (n : Taken left z rest) where
+  fits : left < 2 ^ 64
+  fits = omega (arith, k.small)
+
   pub record Turn (r : ℕ) : Type 0 where
     pub shift_word : 1 * 2 ^ r % 2 ^ 64 ≡ 2 ^ r
-    pub shift_left : 1 * 2 ^ count_trailing_zeros 64 left % 2 ^ 64 ≡ 2 ^ count_trailing_zeros 64 left
     pub room : word + 2 ^ r < 2 ^ 63
-    pub there : 2 ^ count_trailing_zeros 64 left ≤ left
-    pub fewer : left - 2 ^ count_trailing_zeros 64 left < left
-    pub again : Spreading whole (left - 2 ^ count_trailing_zeros 64 left) (word + 2 ^ r)
+    pub again : Spreading whole rest (word + 2 ^ r)
 
-  pub bit_inside : count_trailing_zeros 64 left < 63
-  bit_inside = (lowest_place left some k.small).inside
+  pub bit_inside : z < 63
+  bit_inside = lowest_inside left z rest fits n 63 k.small
 
-  pub turn : (r : ℕ) → r < 63 → 2 ^ r ≡ alone_of (count_trailing_zeros 64 left) → Turn r
+  pub turn : (r : ℕ) → r < 63 → 2 ^ r ≡ alone_of z → Turn r
   turn r h e =
-      let l = lowest_place left some k.small in
-      let z = count_trailing_zeros 64 left in
       let s = spread_small whole in
-      let p : word + 2 ^ r + spread_of (left - 2 ^ z) ≡ spread_of whole = omega (arith, l.parts, k.parts) in
+      let p = parted left z rest fits n in
       record {
         shift_word = one_shl 64 r (omega arith);
-        shift_left = one_shl 64 z (omega (arith, l.inside));
-        room = omega arith;
-        there = l.there;
-        fewer = omega (arith, l.there, pow_pos z);
-        again = record { small = omega (arith, k.small); parts = p };
+        room = omega (arith, k.parts);
+        again = record { small = omega (arith, k.small, n.2); parts = omega (arith, k.parts) };
       }
 
-pub spread_start : (whole : ℕ) → whole < 2 ^ 63 → Spreading whole whole 0
-spread_start whole h = record { small = h; parts = omega arith }
-
-pub spread_end : (whole left word d c : ℕ) → Spreading whole left word → left ≤ 0 → whole ≡ both_of d c → word ≡ word_of (place_bit d c) places
-spread_end whole left word d c k h e =
-    let z : left ≡ 0 = omega arith in
+pub spread_end : (whole left word d c : ℕ) → Spreading whole left word → left ≡ 0 → whole ≡ both_of d c → word ≡ word_of (place_bit d c) places
+spread_end whole left word d c k z e =
     let f : word ≡ spread_of whole = omega (arith, k.parts, ap spread_of z, spread_none) in
     f ∙ ap spread_of e ∙ spread_both d c

@@ -15,7 +15,7 @@ ghost use Rattle.view.specs.Standing.{NodeIn, bitmaps_of, value_on};
 ghost use Rattle.view.specs.Numbers.{number_of, place_at};
 ghost use Rattle.view.specs.Spreads.{one, alone_of};
 ghost use Rattle.view.specs.Descent.{cut_to, down_of, node_down, found_of};
-ghost use Rattle.view.specs.Covered.{words_of, coverage_of, join_of, bytes_at};
+ghost use Rattle.view.specs.Covered.{words_of, coverage_of, join_of};
 ghost use Rattle.view.specs.Kept.{kept_bit, kept_of};
 ghost use Rattle.view.specs.Emptiness.{is_nil, empty_at};
 ghost use Rattle.view.specs.Seen.{seen};
@@ -35,15 +35,19 @@ pub struct Bitmaps {
     pub child: u32,
 }
 
-// The number of the z-th place in prefix order.
+// The numbers of a node's places, in prefix order.
+const IN_ORDER: [u8; 63] = [
+    1, 2, 4, 8, 16, 32, 33, 17, 34, 35, 9, 18, 36, 37, 19, 38, 39, 5, 10, 20, 40, 41, 21, 42, 43,
+    11, 22, 44, 45, 23, 46, 47, 3, 6, 12, 24, 48, 49, 25, 50, 51, 13, 26, 52, 53, 27, 54, 55, 7,
+    14, 28, 56, 57, 29, 58, 59, 15, 30, 60, 61, 31, 62, 63,
+];
+
+// The number of the z-th place in prefix order. It and `position` look up different tables, one word each.
 pub fn place_at(z: u32) -> u32
     requires { z < 63 }
     ensures { result ≡ number_of (place_at z) }
 {
-    let t =
-        b"\x01\x02\x04\x08\x10\x20\x21\x11\x22\x23\x09\x12\x24\x25\x13\x26\x27\x05\x0a\x14\x28\x29\x15\x2a\x2b\x0b\x16\x2c\x2d\x17\x2e\x2f\x03\x06\x0c\x18\x30\x31\x19\x32\x33\x0d\x1a\x34\x35\x1b\x36\x37\x07\x0e\x1c\x38\x39\x1d\x3a\x3b\x0f\x1e\x3c\x3d\x1f\x3e\x3f";
-    let at = z as usize;
-    t[at] as u32
+    u32::from(IN_ORDER[z as usize])
 }
 
 // The two bitmaps of a side's node. Where there is none, no bit is set.
@@ -60,27 +64,29 @@ pub fn bitmaps_at(words: &[u32], node: Node) -> Bitmaps
     }
 }
 
+// Where the place of each bit of a node stands in prefix order: its 31 data bits, then its 32 child bits.
+const POSITIONS: [u8; 63] = [
+    0, 1, 32, 2, 17, 33, 48, 3, 10, 18, 25, 34, 41, 49, 56, 4, 7, 11, 14, 19, 22, 26, 29, 35, 38,
+    42, 45, 50, 53, 57, 60, 5, 6, 8, 9, 12, 13, 15, 16, 20, 21, 23, 24, 27, 28, 30, 31, 36, 37, 39,
+    40, 43, 44, 46, 47, 51, 52, 54, 55, 58, 59, 61, 62,
+];
+
 // Where the place of bit z of a node stands in prefix order.
 fn position(z: u32) -> u32
     requires { z < 63 }
     ensures { (result < 63) × (2 ^ result ≡ alone_of z) }
 {
-    let t =
-        b"\x00\x01\x20\x02\x11\x21\x30\x03\x0a\x12\x19\x22\x29\x31\x38\x04\x07\x0b\x0e\x13\x16\x1a\x1d\x23\x26\x2a\x2d\x32\x35\x39\x3c\x05\x06\x08\x09\x0c\x0d\x0f\x10\x14\x15\x17\x18\x1b\x1c\x1e\x1f\x24\x25\x27\x28\x2b\x2c\x2e\x2f\x33\x34\x36\x37\x3a\x3b\x3d\x3e";
-    let at = z as usize;
-    t[at] as u32
+    u32::from(POSITIONS[z as usize])
 }
 
 // A node's bits in prefix order, one a place. Only bits that are set cost a turn; data bit 31 stands for no place.
 pub fn spread(b: Bitmaps) -> u64
     ensures { result ≡ word_of (place_bit b.data b.child) places }
 {
-    let mut left = ((b.child as u64) << 31) + ((b.data % 2147483648) as u64);
+    let both = (u64::from(b.child) << 31) + u64::from(b.data % 2147483648);
     let mut word: u64 = 0;
-    while left > 0 {
-        let z = u64::trailing_zeros(left);
+    for z in bits::set_bits(both) {
         word += 1 << position(z);
-        left -= 1 << z;
     }
     word
 }
@@ -185,7 +191,7 @@ impl<'a> Side<'a> {
         self.held_child(node? as usize, c, q)
     }
 
-    // The nearest entry above place h of node i, of prefix p, or else what stands above the node. Only set bits are looked at.
+    // The nearest entry above place h of node i, of prefix p, or else what stands above the node. Each turn goes to the place above, whose number is half: no range goes so.
     fn climbed(self, i: u32, p: Prefix, above: Cover, h: u32) -> Cover
         requires { (i < node_count self.words.now) × (0 < h) × (h < 64) × Whole p × (p.len ≤ 60) }
         ensures { result ≡ cover_bits (seen self.entry) (Some i) p above (place_len h) (place_value h) }
@@ -335,27 +341,144 @@ impl<'a> Side<'a> {
     }
 }
 
-// A byte as a word.
-fn wide(x: u8) -> u32
-    ensures { (result ≡ x) × (result < 256) }
-{
-    x as u32
-}
-
-// The word of four bytes, lowest first.
-fn word_at(t: &[u8], at: usize) -> u32
-    requires { at + 4 ≤ length t.now }
-    ensures { result ≡ bytes_at t.now at }
-{
-    wide(t[at]) + 256 * wide(t[at + 1]) + 65536 * wide(t[at + 2]) + 16777216 * wide(t[at + 3])
-}
-
-// The places of a node that entries cover.
+// The places of a node that entries cover. No `Bitmaps`, though it looks alike: those say what is there, and one must not pass for the other.
 #[derive(Clone, Copy)]
 pub struct Coverage {
     pub data: u32,
     pub child: u32,
 }
+
+// What the entry of each data bit covers.
+const COVERED: [Coverage; 32] = [
+    Coverage {
+        data: 0x7fffffff,
+        child: 0xffffffff,
+    },
+    Coverage {
+        data: 0x007f879a,
+        child: 0x0000ffff,
+    },
+    Coverage {
+        data: 0x7f807864,
+        child: 0xffff0000,
+    },
+    Coverage {
+        data: 0x00078188,
+        child: 0x000000ff,
+    },
+    Coverage {
+        data: 0x00780610,
+        child: 0x0000ff00,
+    },
+    Coverage {
+        data: 0x07801820,
+        child: 0x00ff0000,
+    },
+    Coverage {
+        data: 0x78006040,
+        child: 0xff000000,
+    },
+    Coverage {
+        data: 0x00018080,
+        child: 0x0000000f,
+    },
+    Coverage {
+        data: 0x00060100,
+        child: 0x000000f0,
+    },
+    Coverage {
+        data: 0x00180200,
+        child: 0x00000f00,
+    },
+    Coverage {
+        data: 0x00600400,
+        child: 0x0000f000,
+    },
+    Coverage {
+        data: 0x01800800,
+        child: 0x000f0000,
+    },
+    Coverage {
+        data: 0x06001000,
+        child: 0x00f00000,
+    },
+    Coverage {
+        data: 0x18002000,
+        child: 0x0f000000,
+    },
+    Coverage {
+        data: 0x60004000,
+        child: 0xf0000000,
+    },
+    Coverage {
+        data: 0x00008000,
+        child: 0x00000003,
+    },
+    Coverage {
+        data: 0x00010000,
+        child: 0x0000000c,
+    },
+    Coverage {
+        data: 0x00020000,
+        child: 0x00000030,
+    },
+    Coverage {
+        data: 0x00040000,
+        child: 0x000000c0,
+    },
+    Coverage {
+        data: 0x00080000,
+        child: 0x00000300,
+    },
+    Coverage {
+        data: 0x00100000,
+        child: 0x00000c00,
+    },
+    Coverage {
+        data: 0x00200000,
+        child: 0x00003000,
+    },
+    Coverage {
+        data: 0x00400000,
+        child: 0x0000c000,
+    },
+    Coverage {
+        data: 0x00800000,
+        child: 0x00030000,
+    },
+    Coverage {
+        data: 0x01000000,
+        child: 0x000c0000,
+    },
+    Coverage {
+        data: 0x02000000,
+        child: 0x00300000,
+    },
+    Coverage {
+        data: 0x04000000,
+        child: 0x00c00000,
+    },
+    Coverage {
+        data: 0x08000000,
+        child: 0x03000000,
+    },
+    Coverage {
+        data: 0x10000000,
+        child: 0x0c000000,
+    },
+    Coverage {
+        data: 0x20000000,
+        child: 0x30000000,
+    },
+    Coverage {
+        data: 0x40000000,
+        child: 0xc0000000,
+    },
+    Coverage {
+        data: 0x00000000,
+        child: 0x00000000,
+    },
+];
 
 impl Coverage {
     pub const NOTHING: Coverage = Coverage { data: 0, child: 0 };
@@ -394,27 +517,16 @@ impl Coverage {
         requires { z < 32 }
         ensures { result ≡ coverage_of (2 ^ z) }
     {
-        let held =
-            b"\xff\xff\xff\x7f\x9a\x87\x7f\x00\x64\x78\x80\x7f\x88\x81\x07\x00\x10\x06\x78\x00\x20\x18\x80\x07\x40\x60\x00\x78\x80\x80\x01\x00\x00\x01\x06\x00\x00\x02\x18\x00\x00\x04\x60\x00\x00\x08\x80\x01\x00\x10\x00\x06\x00\x20\x00\x18\x00\x40\x00\x60\x00\x80\x00\x00\x00\x00\x01\x00\x00\x00\x02\x00\x00\x00\x04\x00\x00\x00\x08\x00\x00\x00\x10\x00\x00\x00\x20\x00\x00\x00\x40\x00\x00\x00\x80\x00\x00\x00\x00\x01\x00\x00\x00\x02\x00\x00\x00\x04\x00\x00\x00\x08\x00\x00\x00\x10\x00\x00\x00\x20\x00\x00\x00\x40\x00\x00\x00\x00";
-        let kids =
-            b"\xff\xff\xff\xff\xff\xff\x00\x00\x00\x00\xff\xff\xff\x00\x00\x00\x00\xff\x00\x00\x00\x00\xff\x00\x00\x00\x00\xff\x0f\x00\x00\x00\xf0\x00\x00\x00\x00\x0f\x00\x00\x00\xf0\x00\x00\x00\x00\x0f\x00\x00\x00\xf0\x00\x00\x00\x00\x0f\x00\x00\x00\xf0\x03\x00\x00\x00\x0c\x00\x00\x00\x30\x00\x00\x00\xc0\x00\x00\x00\x00\x03\x00\x00\x00\x0c\x00\x00\x00\x30\x00\x00\x00\xc0\x00\x00\x00\x00\x03\x00\x00\x00\x0c\x00\x00\x00\x30\x00\x00\x00\xc0\x00\x00\x00\x00\x03\x00\x00\x00\x0c\x00\x00\x00\x30\x00\x00\x00\xc0\x00\x00\x00\x00";
-        let at = 4 * (z as usize);
-        Coverage {
-            data: word_at(held, at),
-            child: word_at(kids, at),
-        }
+        COVERED[z as usize]
     }
 
     // What the entries of a data bitmap cover, entry by entry.
     pub fn from_data(entries: u32) -> Coverage
         ensures { result ≡ coverage_of entries }
     {
-        let mut left = entries;
         let mut covered = Coverage::NOTHING;
-        while left > 0 {
-            let z = u32::trailing_zeros(left);
+        for z in bits::set_bits(u64::from(entries)) {
             covered = covered.with(Coverage::of_bit(z));
-            left -= 1 << z;
         }
         covered
     }

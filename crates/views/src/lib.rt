@@ -100,7 +100,7 @@ impl<'a> View<'a> {
     }
 }
 
-// The covering difference of two views that are made here, for callers that hold none.
+// The covering difference of two views that are made here, for callers that hold plain words and numbers. Public, and named in docs/CONTRACTS.md.
 pub fn covering_difference_of(
     width: u32,
     left: &[u32],

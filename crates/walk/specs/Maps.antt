@@ -49,8 +49,8 @@ module _ (j : Job) (p : Prefix) (l r : Node) where
       (ap (λ (n : Covers). marked j.left.pool l x && not (is_cover (cover_on j.right r p n.right x))) c)
 
   -- the level of two nodes, from the map of their places
-  pub entered_is : (above : Covers) → carried j.op above ≡ above → (m : Bitmaps) → m ≡ maps_of j p l r → (t : ℕ) → t ≡ word_of (place_in m) places
+  pub entered_is : {above : Covers} → carried j.op above ≡ above → {m : Bitmaps} → m ≡ maps_of j p l r → {t : ℕ} → t ≡ word_of (place_in m) places
       → ◌≡◌ {A = Level} (record { prefix = p; left = l; right = r; above = above; todo = t }) (enter j p l r above)
-  entered_is above c m e t h =
+  entered_is {above} c {m} e {t} h =
       let k : t ≡ word_of (wanted j p l r above) places = h ∙ ap (λ (n : Bitmaps). word_of (place_in n) places) e ∙ word_on _ _ (maps_bit j.op above c) places_in_node in
       ap (λ (n : ℕ). record { prefix = p; left = l; right = r; above = above; todo = n }) k

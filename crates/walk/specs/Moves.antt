@@ -1,6 +1,6 @@
 -- What the walk's functions work out is what the walk's definition says, one function after the other.
 use Rattle.std.specs.Prelude.{◌≡◌, refl, ℕ, ◌*◌, ◌-◌, ◌%◌, ◌^◌, ◌≤◌, ◌<◌, None, Some}
-use Rattle.std.proofs.Common.{sym, ◌∙◌, ap, ap₂, subst, arith, eq-eqb, ne_eqb, le-leb}
+use Rattle.std.proofs.Common.{sym, ◌∙◌, ap, ap₂, subst, arith, ne_eqb}
 use Rattle.std.specs.Int.Count.{count_trailing_zeros}
 use Rattle.std.proofs.lemmas.Bool.{lt-leb}
 use Rattle.defs.specs.declared.Prefix.{Prefix}
@@ -64,58 +64,43 @@ emit_needed CoveringUnion q None (Some b) c = refl
 emit_needed CoveringUnion q (Some a) None c = refl
 emit_needed CoveringUnion q (Some a) (Some b) c = refl
 
-carried_again : (op : Operation) (c : Covers) → carried op (carried op c) ≡ carried op c
-carried_again Union c = refl
-carried_again Intersection c = refl
-carried_again Difference c = refl
-carried_again CoveringDifference c = refl
-carried_again CoveringUnion c = refl
-
-module _ (j : Job) (f : Level) (pass : Passing j f) (fits : f.prefix.key < 2 ^ 64) (h : ℕ) where
+module _ {j : Job} {f : Level} (pass : Passing j f) (fits : f.prefix.key < 2 ^ 64) {h : ℕ} where
   -- a data place
-  module _ (some : 0 < h) (low : h < 32) (q : Prefix) (eq : q ≡ place_prefix f.prefix h) where
+  module _ (some : 0 < h) (low : h < 32) {q : Prefix} (eq : q ≡ place_prefix f.prefix h) where
     data_prefix : q ≡ deeper f.prefix (place_len h) (place_value h)
     data_prefix =
         eq ∙ place_prefix_lem f.prefix h some (omega arith) pass.at.whole fits (let k = place_len_below h some (omega arith) 5 low in let s = pass.at.short in omega arith)
 
-    pub data_step : (a b : Value) → a ≡ value_in j.left.pool j.left.root f.left (place_len h) (place_value h) q
-        → b ≡ value_in j.right.pool j.right.root f.right (place_len h) (place_value h) q
-        → (c : Covers) → c ≡ needed j.op a b (covers_at j f (place_len h) (place_value h)) → (e : Emit) → e ≡ emit_of j.op q a b c.left c.right
-        → given e f ≡ step_at j f (data_place (place_len h) (place_value h))
-    data_step a b ea eb c ec e ee =
-        let n = place_len h in
-        let v = place_value h in
-        let d = deeper f.prefix n v in
-        let s = covers_at j f n v in
-        let k : e ≡ emit_of j.op d (value_in j.left.pool j.left.root f.left n v d) (value_in j.right.pool j.right.root f.right n v d) s.left s.right =
-        ee ∙ rw (ec, emit_needed j.op q a b s, ea, eb, data_prefix) in
-        ap (λ (x : Emit). given x f) k
+    -- the values there, the covers that an item may show, and the item
+    module _ {a b : Value} (ea : a ≡ value_in j.left.pool j.left.root f.left (place_len h) (place_value h) q)
+        (eb : b ≡ value_in j.right.pool j.right.root f.right (place_len h) (place_value h) q)
+        {c : Covers} (ec : c ≡ needed j.op a b (covers_at j f (place_len h) (place_value h))) {e : Emit} (ee : e ≡ emit_of j.op q a b c.left c.right) where
+      data_step : given e f ≡ step_at j f (data_place (place_len h) (place_value h))
+      data_step =
+          let n = place_len h in
+          let v = place_value h in
+          let d = deeper f.prefix n v in
+          let s = covers_at j f n v in
+          let k : e ≡ emit_of j.op d (value_in j.left.pool j.left.root f.left n v d) (value_in j.right.pool j.right.root f.right n v d) s.left s.right =
+          ee ∙ rw (ec, emit_needed j.op q a b s, ea, eb, data_prefix) in
+          ap (λ (x : Emit). given x f) k
 
-    pub data_none : (a b : Value) → a ≡ value_in j.left.pool j.left.root f.left (place_len h) (place_value h) q
-        → b ≡ value_in j.right.pool j.right.root f.right (place_len h) (place_value h) q
-        → (c : Covers) → c ≡ needed j.op a b (covers_at j f (place_len h) (place_value h)) → (e : Emit) → e ≡ emit_of j.op q a b c.left c.right
-        → e ≡ None → step.Skip f ≡ step_at j f (data_place (place_len h) (place_value h))
-    data_none a b ea eb c ec e ee n = ap (λ (x : Emit). given x f) (sym n) ∙ data_step a b ea eb c ec e ee
+      pub data_none : e ≡ None → step.Skip f ≡ step_at j f (data_place (place_len h) (place_value h))
+      data_none n = ap (λ (x : Emit). given x f) (sym n) ∙ data_step
 
-    pub data_one : (a b : Value) → a ≡ value_in j.left.pool j.left.root f.left (place_len h) (place_value h) q
-        → b ≡ value_in j.right.pool j.right.root f.right (place_len h) (place_value h) q
-        → (c : Covers) → c ≡ needed j.op a b (covers_at j f (place_len h) (place_value h)) → (e : Emit) → e ≡ emit_of j.op q a b c.left c.right
-        → (i : Item) → e ≡ Some i → step.Record i f ≡ step_at j f (data_place (place_len h) (place_value h))
-    data_one a b ea eb c ec e ee i n = ap (λ (x : Emit). given x f) (sym n) ∙ data_step a b ea eb c ec e ee
+      pub data_one : {i : Item} → e ≡ Some i → step.Record i f ≡ step_at j f (data_place (place_len h) (place_value h))
+      data_one n = ap (λ (x : Emit). given x f) (sym n) ∙ data_step
 
   -- a child place
   module _ (from : 32 ≤ h) (below : h < 64) where
-    pub child_last : 60 ≤ f.prefix.len → step.Skip f ≡ step_at j f (child_place (h - 32))
-    child_last l = rw (le-leb 60 f.prefix.len l)
-
-    module _ (deep : f.prefix.len < 60) (q : Prefix) (eq : q ≡ place_prefix f.prefix h) where
+    module _ (deep : f.prefix.len < 60) {q : Prefix} (eq : q ≡ place_prefix f.prefix h) where
       child_prefix : q ≡ deeper f.prefix 5 (h - 32)
       child_prefix =
           let c = child_place_lem h from below in
           eq ∙ place_prefix_lem f.prefix h (omega arith) (omega arith) pass.at.whole fits (let e = c.0 in omega arith) ∙ ap₂ (deeper f.prefix) c.0 c.1
 
-      module _ (l r : Node) (el : l ≡ child_in j.left.pool j.left.root f.left (h - 32) q) (er : r ≡ child_in j.right.pool j.right.root f.right (h - 32) q)
-          (above : Covers) (ea : above ≡ carried j.op (covers_at j f (place_len h) (place_value h))) where
+      module _ {l r : Node} (el : l ≡ child_in j.left.pool j.left.root f.left (h - 32) q) (er : r ≡ child_in j.right.pool j.right.root f.right (h - 32) q)
+          {above : Covers} (ea : above ≡ carried j.op (covers_at j f (place_len h) (place_value h))) where
         pub child_entering : Entering j q l r
         child_entering =
             record {
@@ -128,21 +113,15 @@ module _ (j : Job) (f : Level) (pass : Passing j f) (fits : f.prefix.key < 2 ^ 6
               fives = let e = ap (λ (x : Prefix). x.len) child_prefix in let m = pass.at.fives in omega arith;
             }
 
-        pub child_carries : carried j.op above ≡ above
-        child_carries = rw ea (carried_again j.op (covers_at j f (place_len h) (place_value h)))
-
-        pub child_step : (s : Step) → s ≡ down_to j f q l r above → s ≡ step_at j f (child_place (h - 32))
-        child_step s e =
+        pub child_step : {s : Step} → s ≡ down_to j f q l r above → s ≡ step_at j f (child_place (h - 32))
+        child_step e =
             let c = child_place_lem h from below in
             e ∙ rw (lt-leb 60 f.prefix.len deep, el, er, ea, c.0, c.1, child_prefix)
 
 -- a level without its lowest place
-module _ (j : Job) (f : Level) (ready : Ready j f) where
+module _ {j : Job} {f : Level} (ready : Ready j f) where
   abbrev z : ℕ
   z = count_trailing_zeros 64 f.todo
-
-  pub step_up : f.todo ≡ 0 → step.Up ≡ step_of j f
-  step_up e = rw (eq-eqb f.todo 0 e)
 
   module _ (left : f.todo ≡ 0 → ⊥) where
     some : 0 < f.todo
@@ -167,18 +146,15 @@ module _ (j : Job) (f : Level) (ready : Ready j f) where
     numbered : Numbered (place_at z) (number_of (place_at z))
     numbered = place_numbered z place_below
 
-    pub number_some : (h : ℕ) → h ≡ number_of (place_at z) → 0 < h
-    number_some h e = let n = numbered.some in omega arith
+    pub number_below : {h : ℕ} → h ≡ number_of (place_at z) → h < 64
+    number_below e = let n = numbered.below in omega arith
 
-    pub number_below : (h : ℕ) → h ≡ number_of (place_at z) → h < 64
-    number_below h e = let n = numbered.below in omega arith
-
-    pub step_data : (h : ℕ) → h ≡ number_of (place_at z) → h < 32 → (s : Step) → s ≡ step_at j (without f (1 * 2 ^ z % 2 ^ 64)) (data_place (place_len h) (place_value h)) → s ≡ step_of j f
-    step_data h e l s k =
+    pub step_data : {h : ℕ} → h ≡ number_of (place_at z) → h < 32 → {s : Step} → s ≡ step_at j (without f (1 * 2 ^ z % 2 ^ 64)) (data_place (place_len h) (place_value h)) → s ≡ step_of j f
+    step_data {h} e l k =
         k ∙ ap (λ (n : ℕ). step_at j (without f n) (data_place (place_len h) (place_value h))) bit_is ∙ ap (λ (n : ℕ). step_at j (without f (2 ^ z)) (data_place (place_len n) (place_value n))) e ∙ ap (step_at j (without f (2 ^ z))) (sym (numbered.is_data (let m = l in omega arith)))
         ∙ rw (ne_eqb f.todo 0 left)
 
-    pub step_child : (h : ℕ) → h ≡ number_of (place_at z) → 32 ≤ h → (s : Step) → s ≡ step_at j (without f (1 * 2 ^ z % 2 ^ 64)) (child_place (h - 32)) → s ≡ step_of j f
-    step_child h e l s k =
+    pub step_child : {h : ℕ} → h ≡ number_of (place_at z) → 32 ≤ h → {s : Step} → s ≡ step_at j (without f (1 * 2 ^ z % 2 ^ 64)) (child_place (h - 32)) → s ≡ step_of j f
+    step_child {h} e l k =
         k ∙ ap (λ (n : ℕ). step_at j (without f n) (child_place (h - 32))) bit_is ∙ ap (λ (n : ℕ). step_at j (without f (2 ^ z)) (child_place (n - 32))) e ∙ ap (step_at j (without f (2 ^ z))) (sym (numbered.is_child (let m = l in omega arith)))
         ∙ rw (ne_eqb f.todo 0 left)

@@ -13,6 +13,7 @@ ghost use Rattle.walk.specs.Maps.{maps_of};
 ghost use Rattle.walk.specs.Moves.{shown_to, needed};
 ghost use Rattle.walk.specs.Loops.{Room, kept_or_written};
 
+use arrayvec::ArrayVec;
 use defs::{Operation, Prefix};
 use theory::{Covers, Item, Level, Node, Step, Value};
 use view::{Bitmaps, Coverage, Side};
@@ -35,7 +36,7 @@ pub fn no_covers() -> Covers
     }
 }
 
-// What a data place of prefix q gives to a list, by the values there and the covers above it.
+// What a data place of prefix q gives to a list, by the values there and the covers above it. Here and below, an operation is a value and no type: C and the text program hand it in.
 fn item(op: Operation, q: Prefix, a: Value, b: Value, c: Covers) -> Option<Item>
     ensures { result ≡ emit_of op q a b c.left c.right }
 {
@@ -194,7 +195,9 @@ impl<'a> Job<'a> {
         }
     }
 
-    // The walk from a level on: how many records there are, each written after the last one where that is asked for.
+    // The walk from a level on: how many records there are, each written after the last one where that is asked for. A flag and a buffer, since no
+    // clause could say readably what an Option of the buffer leaves behind; and a place in it, since a proof knows no element of what
+    // `chunks_exact_mut` has lent.
     pub fn run(self, start: Level, writes: bool, out: &mut [u64]) -> u64
         requires ready { Ready (job_of self) start }
         requires count_fits { length (level_rest (job_of self) start) < 2 ^ 64 }
@@ -202,28 +205,22 @@ impl<'a> Job<'a> {
         ensures { (result ≡ length (level_rest (job_of self.entry) start))
             × (out.new ≡ kept_or_written writes (level_rest (job_of self.entry) start) out.old) }
     {
-        let mut stack = [start; 13];
-        let mut n: usize = 1;
+        let mut stack = ArrayVec::<Level, 13>::new();
+        stack.push(start);
         let mut count: u64 = 0;
         let mut at: usize = 0;
-        while 0 < n {
-            let k = n - 1;
-            match self.step(stack[k]) {
-                Step::Up => {
-                    n = k;
-                }
-                Step::Skip(f) => {
-                    stack[k] = f;
-                }
+        while let Some(top) = stack.pop() {
+            match self.step(top) {
+                Step::Up => {}
+                Step::Skip(f) => stack.push(f),
                 Step::Record(i, f) => {
-                    stack[k] = f;
+                    stack.push(f);
                     at += rules::record::put_if(writes, &mut out[at..], i);
                     count += 1;
                 }
                 Step::Down(f, g) => {
-                    stack[k] = f;
-                    stack[n] = g;
-                    n += 1;
+                    stack.push(f);
+                    stack.push(g);
                 }
             }
         }

@@ -1,40 +1,26 @@
--- `tidy::full_kids` meets its contract. The word of the children asked so far; the measure is the bits left, as a number.
+-- `tidy::full_kids` meets its contract. The word of the children asked so far.
+use Rattle.std.proofs.Common.{◌≡◌, ap, ◌∙◌, arith}
+use Rattle.bits.specs.declared.SetBits.{SetBits}
 use Rattle.view.specs.Standing.{sane_formed}
 use Rattle.tidy.specs.Full as full
-use native.Mathlib.Omega.{arith}
-use lib.Pow.{pow_pos}
-use lib.Count.{count_trailing_zeros}
 use Rattle.tidy.proofs.full_kids.Goals as goal
 
-pub child_bits-left-requires : goal.child_bits-left-requires
-child_bits-left-requires c = c.requires
-
-pub first_child-node-requires : goal.first_child-node-requires
-first_child-node-requires c = c.requires
-
-pub loop-left-init : goal.loop-left-init
-loop-left-init c = full.asking_start c.args.side.words.now (sane_formed _ c.args.side.formed) c.args.levels c.args.i c.requires _ _ (omega arith) c.child_bits-left.ensures c.first_child-node.ensures
+pub loop-c-init : goal.loop-c-init
+loop-c-init c =
+    let e : c.into_iter-c-iterator.result.left ≡ c.child_bits-held.result = ap (λ (x : SetBits). x.left) c.into_iter-c-iterator.ensures.into_iter_gives ∙ c.set_bits-c-items.ensures ∙ c.from.ensures in
+    rw e (full.asking_start c.args.side.words.now (sane_formed _ c.args.side.formed) c.args.levels c.args.i c.requires _ _ (omega arith) c.child_bits-held.ensures c.first_child-node.ensures)
 
 pub is_full-requires : goal.is_full-requires
-is_full-requires c = (full.asking_inside c.args.side.words.now (sane_formed _ c.args.side.formed) c.args.levels c.args.i c.requires _ _ _ c.loop-left-test.true c.loop-left.invariant)
+is_full-requires c = full.asking_inside c.args.side.words.now (sane_formed _ c.args.side.formed) c.args.levels c.args.i c.requires _ _ _ _ _ c.loop-c.invariant c.in-Some.ensures.steps
 
 pub with_bit-word-requires : goal.with_bit-word-requires
-with_bit-word-requires c = (full.asking_bit c.args.side.words.now (sane_formed _ c.args.side.formed) c.args.levels c.args.i c.requires _ _ _ c.loop-left-test.true c.loop-left.invariant, full.asking_word c.args.side.words.now (sane_formed _ c.args.side.formed) c.args.levels c.args.i c.requires _ _ _ c.loop-left-test.true c.loop-left.invariant)
-
-pub overflow_shl-left : goal.overflow_shl-left
-overflow_shl-left c = full.asking_bit c.args.side.words.now (sane_formed _ c.args.side.formed) c.args.levels c.args.i c.requires _ _ _ c.loop-left-test.true c.loop-left.invariant
-
-pub overflow_sub-left : goal.overflow_sub-left
-overflow_sub-left c = omega (arith, full.asking_shift c.args.side.words.now (sane_formed _ c.args.side.formed) c.args.levels c.args.i c.requires _ _ _ c.loop-left-test.true c.loop-left.invariant, full.asking_there c.args.side.words.now (sane_formed _ c.args.side.formed) c.args.levels c.args.i c.requires _ _ _ c.loop-left-test.true c.loop-left.invariant)
+with_bit-word-requires c = (full.asking_bit c.args.side.words.now (sane_formed _ c.args.side.formed) c.args.levels c.args.i c.requires _ _ _ _ _ c.loop-c.invariant c.in-Some.ensures.steps, full.asking_word c.args.side.words.now (sane_formed _ c.args.side.formed) c.args.levels c.args.i c.requires _ _ _ _ _ c.loop-c.invariant c.in-Some.ensures.steps)
 
 pub overflow_add-node : goal.overflow_add-node
-overflow_add-node c = omega (arith, full.asking_next c.args.side.words.now (sane_formed _ c.args.side.formed) c.args.levels c.args.i c.requires _ _ _ c.loop-left-test.true c.loop-left.invariant)
+overflow_add-node c = omega (arith, full.asking_next c.args.side.words.now (sane_formed _ c.args.side.formed) c.args.levels c.args.i c.requires _ _ _ _ _ c.loop-c.invariant c.in-Some.ensures.steps)
 
-pub loop-left-smaller : goal.loop-left-smaller
-loop-left-smaller c = omega (arith, full.asking_shift c.args.side.words.now (sane_formed _ c.args.side.formed) c.args.levels c.args.i c.requires _ _ _ c.loop-left-test.true c.loop-left.invariant, full.asking_there c.args.side.words.now (sane_formed _ c.args.side.formed) c.args.levels c.args.i c.requires _ _ _ c.loop-left-test.true c.loop-left.invariant, pow_pos (count_trailing_zeros 32 c.loop-left.left))
-
-pub loop-left-preserved : goal.loop-left-preserved
-loop-left-preserved c = rw (full.asking_shift c.args.side.words.now (sane_formed _ c.args.side.formed) c.args.levels c.args.i c.requires _ _ _ c.loop-left-test.true c.loop-left.invariant) (full.asking_on c.args.side.words.now (sane_formed _ c.args.side.formed) c.args.levels c.args.i c.requires _ _ _ c.loop-left-test.true c.loop-left.invariant _ c.is_full.ensures _ c.with_bit-word.ensures)
+pub loop-c-preserved : goal.loop-c-preserved
+loop-c-preserved c = full.asking_on c.args.side.words.now (sane_formed _ c.args.side.formed) c.args.levels c.args.i c.requires _ _ _ _ _ c.loop-c.invariant c.in-Some.ensures.steps _ c.is_full.ensures _ c.with_bit-word.ensures
 
 pub returns : goal.returns
-returns c = full.asking_end c.args.side.words.now (sane_formed _ c.args.side.formed) c.args.levels c.args.i c.requires _ _ _ c.loop-left-test.false c.loop-left.invariant
+returns c = full.asking_end c.args.side.words.now (sane_formed _ c.args.side.formed) c.args.levels c.args.i c.requires _ _ _ c.in-None.ensures.steps.0 c.loop-c.invariant

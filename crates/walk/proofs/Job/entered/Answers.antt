@@ -3,4 +3,4 @@ use Rattle.walk.specs.Maps.{entered_is}
 use Rattle.walk.proofs.Job.entered.Goals as goal
 
 pub returns : goal.returns
-returns c = entered_is (job_of c.args.self) _ _ _ _ c.requires.above_value _ c.maps.ensures _ c.spread.ensures
+returns c = entered_is (job_of c.args.self) _ _ _ c.requires.above_value c.maps.ensures c.spread.ensures

@@ -1,9 +1,8 @@
 -- `sets::Sides::child_equal` and `pair_equal` meet their contracts. A pair asks its children with its own levels, and a child asks its pair with one level less.
-use Rattle.std.proofs.Common.{◌≡◌, ◌+◌, ◌*◌, ◌-◌, ◌<◌, ◌≤◌, ℕ, sym, ◌∙◌, subst, arith}
-use lib.Count.{count_trailing_zeros}
-use lib.Pow.{pow_pos}
+use Rattle.std.proofs.Common.{◌≡◌, ap, ◌+◌, ◌*◌, ◌-◌, ◌<◌, ◌≤◌, ℕ, sym, ◌∙◌, subst, arith}
+use Rattle.bits.specs.declared.SetBits.{SetBits}
 use Rattle.view.specs.Seen.{seen}
-use Rattle.sets.specs.Equality.{child_last, child_paired, child_pair, comparing_start, comparing_on, next_inside, next_there, next_shift, pair_differs, comparing_fails, comparing_ends}
+use Rattle.sets.specs.Equality.{child_last, child_paired, child_pair, comparing_start, comparing_on, next_inside, pair_differs, comparing_fails, comparing_ends}
 use Rattle.sets.proofs.sides.Sides.+child_equal_pair_equal.Goals as goal
 
 at_least : {n : ℕ} → (n ≡ 0 → ⊥) → 1 ≤ n
@@ -28,25 +27,18 @@ pub pair_equal-returns-then-a-b : goal.pair_equal-returns-then-a-b
 pair_equal-returns-then-a-b t c = pair_differs (seen c.args.self.left) (seen c.args.self.right) c.args.p c.args.left c.args.right c.args.levels _ _ c.kept_data-a.ensures c.kept_data-b.ensures c.if-a-b.true
 
 pub pair_equal-child_equal-requires : goal.pair_equal-child_equal-requires
-pair_equal-child_equal-requires t c = (subst (λ (x : ℕ). 2 * c.args.levels < x) c.decreases (omega arith), (c.requires, next_inside (seen c.args.self.left) (seen c.args.self.right) c.args.p c.args.left c.args.right c.args.levels _ c.loop-todo.invariant (omega (arith, c.loop-todo-test.true))))
+pair_equal-child_equal-requires t c = (subst (λ (x : ℕ). 2 * c.args.levels < x) c.decreases (omega arith), (c.requires, next_inside (seen c.args.self.left) (seen c.args.self.right) c.args.p c.args.left c.args.right c.args.levels _ _ _ c.loop-c.invariant c.in-Some.ensures.steps))
 
 pub pair_equal-returns-then-not-child_equal : goal.pair_equal-returns-then-not-child_equal
-pair_equal-returns-then-not-child_equal t c = comparing_fails (seen c.args.self.left) (seen c.args.self.right) c.args.p c.args.left c.args.right c.args.levels _ _ c.kept_data-a.ensures c.kept_data-b.ensures c.if-a-b.false _ (next_inside (seen c.args.self.left) (seen c.args.self.right) c.args.p c.args.left c.args.right c.args.levels _ c.loop-todo.invariant (omega (arith, c.loop-todo-test.true))) (sym c.child_equal.ensures ∙ c.if-not-child_equal.true)
-
-pub pair_equal-overflow_shl-todo : goal.pair_equal-overflow_shl-todo
-pair_equal-overflow_shl-todo t c = next_inside (seen c.args.self.left) (seen c.args.self.right) c.args.p c.args.left c.args.right c.args.levels _ c.loop-todo.invariant (omega (arith, c.loop-todo-test.true))
-
-pub pair_equal-overflow_sub-todo : goal.pair_equal-overflow_sub-todo
-pair_equal-overflow_sub-todo t c = omega (arith, next_shift (seen c.args.self.left) (seen c.args.self.right) c.args.p c.args.left c.args.right c.args.levels _ c.loop-todo.invariant (omega (arith, c.loop-todo-test.true)), next_there (seen c.args.self.left) (seen c.args.self.right) c.args.p c.args.left c.args.right c.args.levels _ c.loop-todo.invariant (omega (arith, c.loop-todo-test.true)))
+pair_equal-returns-then-not-child_equal t c = comparing_fails (seen c.args.self.left) (seen c.args.self.right) c.args.p c.args.left c.args.right c.args.levels _ _ c.kept_data-a.ensures c.kept_data-b.ensures c.if-a-b.false _ (next_inside (seen c.args.self.left) (seen c.args.self.right) c.args.p c.args.left c.args.right c.args.levels _ _ _ c.loop-c.invariant c.in-Some.ensures.steps) (sym c.child_equal.ensures ∙ c.if-not-child_equal.true)
 
 pub pair_equal-returns : goal.pair_equal-returns
-pair_equal-returns t c = comparing_ends (seen c.args.self.left) (seen c.args.self.right) c.args.p c.args.left c.args.right c.args.levels _ _ c.kept_data-a.ensures c.kept_data-b.ensures c.if-a-b.false _ c.loop-todo-test.false c.loop-todo.invariant
+pair_equal-returns t c = comparing_ends (seen c.args.self.left) (seen c.args.self.right) c.args.p c.args.left c.args.right c.args.levels _ _ c.kept_data-a.ensures c.kept_data-b.ensures c.if-a-b.false _ c.in-None.ensures.steps.0 c.loop-c.invariant
 
-pub pair_equal-loop-todo-init : goal.pair_equal-loop-todo-init
-pair_equal-loop-todo-init t c = comparing_start (seen c.args.self.left) (seen c.args.self.right) c.args.p c.args.left c.args.right c.args.levels _ _ _ c.bitmaps_at-l.ensures c.bitmaps_at-r.ensures c.wanted-todo.ensures (omega arith)
+pub pair_equal-loop-c-init : goal.pair_equal-loop-c-init
+pair_equal-loop-c-init t c =
+    let e : c.into_iter-c-iterator.result.left ≡ c.wanted-places.result.child = ap (λ (x : SetBits). x.left) c.into_iter-c-iterator.ensures.into_iter_gives ∙ c.set_bits-c-items.ensures ∙ c.from.ensures in
+    rw e (comparing_start (seen c.args.self.left) (seen c.args.self.right) c.args.p c.args.left c.args.right c.args.levels _ _ _ c.bitmaps_at-l.ensures c.bitmaps_at-r.ensures c.wanted-places.ensures (omega arith))
 
-pub pair_equal-loop-todo-smaller : goal.pair_equal-loop-todo-smaller
-pair_equal-loop-todo-smaller t c = omega (arith, next_shift (seen c.args.self.left) (seen c.args.self.right) c.args.p c.args.left c.args.right c.args.levels _ c.loop-todo.invariant (omega (arith, c.loop-todo-test.true)), next_there (seen c.args.self.left) (seen c.args.self.right) c.args.p c.args.left c.args.right c.args.levels _ c.loop-todo.invariant (omega (arith, c.loop-todo-test.true)), pow_pos (count_trailing_zeros 32 c.loop-todo.todo))
-
-pub pair_equal-loop-todo-preserved : goal.pair_equal-loop-todo-preserved
-pair_equal-loop-todo-preserved t c = rw (next_shift (seen c.args.self.left) (seen c.args.self.right) c.args.p c.args.left c.args.right c.args.levels _ c.loop-todo.invariant (omega (arith, c.loop-todo-test.true))) (comparing_on (seen c.args.self.left) (seen c.args.self.right) c.args.p c.args.left c.args.right c.args.levels _ c.loop-todo.invariant (omega (arith, c.loop-todo-test.true)) (sym c.child_equal.ensures ∙ c.if-not-child_equal.false))
+pub pair_equal-loop-c-preserved : goal.pair_equal-loop-c-preserved
+pair_equal-loop-c-preserved t c = comparing_on (seen c.args.self.left) (seen c.args.self.right) c.args.p c.args.left c.args.right c.args.levels _ _ _ c.loop-c.invariant c.in-Some.ensures.steps (sym c.child_equal.ensures ∙ c.if-not-child_equal.false)

@@ -10,8 +10,5 @@ decreases-child_equal l = 2 * l.levels
 abbrev pub decreases-pair_equal : goal.decreases-pair_equal
 decreases-pair_equal l = 2 * l.levels + 1
 
-abbrev pub invariant-pair_equal-loop-todo : goal.invariant-pair_equal-loop-todo
-invariant-pair_equal-loop-todo l = Comparing (seen l.self.left) (seen l.self.right) l.p l.left l.right l.levels l.todo
-
-abbrev pub decreases-pair_equal-loop-todo : goal.decreases-pair_equal-loop-todo
-decreases-pair_equal-loop-todo l = l.todo
+abbrev pub invariant-pair_equal-loop-c : goal.invariant-pair_equal-loop-c
+invariant-pair_equal-loop-c l = Comparing (seen l.self.left) (seen l.self.right) l.p l.left l.right l.levels l.c-iterator.left
