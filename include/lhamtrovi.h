@@ -13,7 +13,7 @@
  * - An output may not overlap a pool or the other output. The same pool may be given for both sides, and pools may overlap.
  * - There is no memory of earlier calls, no allocation, no lock, no input or output. Calls in several threads need no care as long as no thread writes
  *   what another reads.
- * - A call uses less than 8 KiB of stack: 5,000 bytes at most were measured, on pools as deep as there are (tests/c/stack.c). No depth comes from the input.
+ * - A call uses less than 8 KiB of stack: 4,000 bytes at most were measured, on pools as deep as there are (tests/c/stack.c). No depth comes from the input.
  *
  * The source of truth is the Rattle code, crate `lhamtrovi_c`; nothing proves this header to agree with it, and the tests call each function through it.
  */

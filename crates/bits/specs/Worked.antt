@@ -1,5 +1,5 @@
 -- How the leaves work their definitions out: what their proofs cite, and callers need not.
-use Rattle.std.specs.Prelude.{◌≡◌, ℕ, ◌+◌, ◌-◌, ◌*◌, ◌/◌, ◌%◌, ◌^◌, ◌<◌, ◌≤◌, false, ◌==◌, bit_and, nat_le, nat_lt}
+use Rattle.std.specs.Prelude.{◌≡◌, ℕ, ◌+◌, ◌-◌, ◌*◌, ◌/◌, ◌%◌, ◌^◌, ◌<◌, ◌≤◌, Bool, true, false, ◌||◌, ◌==◌, ◌≢◌, bit_and, nat_le, nat_lt}
 use Rattle.std.specs.Prelude.{Some}
 use Rattle.std.specs.Ordering.{is_some_and, is_lt, partial_ordering_then, nat_cmp}
 use Rattle.std.proofs.Math.Path.{refl, sym, ap}
@@ -61,6 +61,20 @@ module _ (p q : Prefix) where
   pub leads_longer : q.len < p.len → false ≡ leads p q
   unfolding leads
   leads_longer h = rw (lt-leb p.len q.len h)
+
+  -- of two prefixes with one key, the shorter comes first
+  pub before_same : p.key ≡ q.key → nat_lt p.len q.len ≡ before p q
+  unfolding before
+  before_same e = rw (le-ltb p.key q.key (omega arith), eq-eqb p.key q.key e)
+
+  -- of two with different keys, the one with the smaller key
+  pub before_other : (p.key ≢ q.key) → nat_lt p.key q.key ≡ before p q
+  unfolding before
+  before_other n = rw (ne_eqb p.key q.key n) (sym (or_none (nat_lt p.key q.key)))
+    where
+      or_none : (b : Bool) → (b || false) ≡ b
+      or_none true = refl
+      or_none false = refl
 
   -- the order of the fields: the keys decide, and the lengths where the keys are equal
   pub before_is : is_some_and is_lt (partial_ordering_then (Some (nat_cmp p.key q.key)) (Some (nat_cmp p.len q.len))) ≡ before p q

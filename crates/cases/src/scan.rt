@@ -72,34 +72,33 @@ impl Scanner<'_> {
     pub(crate) fn skip(&mut self)
         ensures { length self.new ≤ length self.old }
     {
-        let rest = self.rest;
         let mut comment = false;
-        for (i, &c) in rest.iter().enumerate() {
-            match c {
-                b'#' => comment = true,
-                b'\n' => comment = false,
-                _ => {}
-            }
-            if !comment && digit(c).is_some() {
-                self.rest = &rest[i..];
+        while let [c, rest @ ..] = self.rest {
+            if comment {
+                comment = *c != b'\n';
+            } else if *c == b'#' {
+                comment = true;
+            } else if digit(*c).is_some() {
                 return;
             }
+            self.rest = rest;
         }
-        self.rest = &[];
     }
 
-    // The next number, or 0 where the text has no more. A number and no `Option`: what a text without its end does stays as it was.
+    // The next number, or 0 where the text has no more. A number and no `Option`: what a text without its end does stays as it was. In one pass, since reading the text is most of a run.
     pub(crate) fn number(&mut self) -> u64
         ensures { length self.new ≤ length self.old }
     {
         self.skip();
-        let end = self.rest.iter().position(|&c| digit(c).is_none());
-        let (digits, rest) = self.rest.split_at(end.unwrap_or(self.rest.len()));
-        self.rest = rest;
-        digits
-            .iter()
-            .filter_map(|&c| digit(c))
-            .fold(0, |value, d| (value << 4) | u64::from(d))
+        let mut value = 0;
+        while let [c, rest @ ..] = self.rest {
+            let Some(d) = digit(*c) else {
+                break;
+            };
+            value = (value << 4) | u64::from(d);
+            self.rest = rest;
+        }
+        value
     }
 
     // A count, and so many words into the front of a buffer, as far as it goes. A larger count is for the caller to refuse.

@@ -1,7 +1,8 @@
 -- How code compares keys: a pair of nodes, its children place by place, and the whole call.
-use Rattle.std.specs.Prelude.{◌≡◌, refl, Bool, true, false, ◌||◌, List, [], ℕ, zero, suc, ◌+◌, ◌*◌, ◌-◌, ◌/◌, ◌^◌, ◌≤◌, ◌<◌, eqb, None, Some}
+use Rattle.std.specs.Prelude.{◌≡◌, refl, Bool, true, false, ◌||◌, List, [], ℕ, zero, suc, ◌+◌, ◌*◌, ◌-◌, ◌/◌, ◌%◌, ◌^◌, ◌≤◌, ◌<◌, eqb, None, Some}
 use Rattle.std.proofs.Common.{sym, ◌∙◌, ap, ap₂, subst, arith, eqb-true, eq-eqb, ne_eqb}
 use Rattle.std.proofs.lemmas.Bool.{false≢true}
+use Rattle.std.specs.Int.Count.{count_trailing_zeros}
 use Rattle.defs.specs.declared.Prefix.{Prefix}
 use Rattle.defs.specs.declared.Answer.{Answer}
 use Rattle.defs.specs.declared.Operation.TheVariants.{Union}
@@ -17,11 +18,12 @@ use Rattle.bits.specs.Words.{common_len}
 use Rattle.bits.specs.Places.{place_prefix}
 use Rattle.bits.specs.PlaceLaws.{place_prefix_lem, child_place_lem}
 use Rattle.bits.specs.WordLaws.{bit_none}
+use Rattle.bits.specs.Worked.{one_shl}
 use Rattle.bits.specs.SetBits.{Taken, lowest_inside}
 use Rattle.theory.specs.Sides.{child_in}
 use Rattle.view.specs.Standing.{Sane, NodeIn, bitmaps_of, child_in_lem}
 use Rattle.view.specs.declared.Bitmaps.{Bitmaps}
-use Rattle.view.specs.Spreads.{below_all, one, apart}
+use Rattle.view.specs.Spreads.{below_all, one, lowly, apart}
 use Rattle.view.specs.Emptiness.{both_true, below_of, below_fails}
 use Rattle.view.specs.Kept.{kept_none}
 use Rattle.view.specs.Descent.{cut_to, node_down}
@@ -124,6 +126,15 @@ module _ (l r : Side) (p : Prefix) (a b : Node) (levels : ℕ) where
           let k = neither_of _ _ (sym (unset c) ∙ e) in
           ap₂ (λ (u v : Node). equal_at l r levels u v (deeper p 5 c)) (no_child l.pool l.root a c (deeper p 5 c) k.0) (no_child r.pool r.root b c (deeper p 5 c) k.1) ∙ equal_none l r levels (deeper p 5 c)
 
+  module _ (todo : ℕ) (k : Comparing todo) (some : 0 < todo) where
+    -- the lowest bit that is left is a part of what is left
+    pub next_there : 2 ^ count_trailing_zeros 32 todo ≤ todo
+    next_there = (lowly 32 todo some k.small).part
+
+    -- 1 shifted by its number is its power of two
+    pub next_shift : 1 * 2 ^ count_trailing_zeros 32 todo % 2 ^ 32 ≡ 2 ^ count_trailing_zeros 32 todo
+    next_shift = one_shl 32 (count_trailing_zeros 32 todo) (lowly 32 todo some k.small).inside
+
   module _ (todo z rest : ℕ) (k : Comparing todo) (n : Taken todo z rest) where
     fits : todo < 2 ^ 64
     fits = omega (arith, k.small)
@@ -190,3 +201,11 @@ module _ (width : ℕ) (l r : Side) where
     pub equal_passed : answer 0 (if t then 1 otherwise 0) 0 ≡ equal_outcome width l r
     equal_passed =
         ap (λ (x : Bool). answer 0 (if x then 1 otherwise 0) 0) e ∙ sym (first_passes (side_rows width l r) [] (if same_keys (entries_of l) (entries_of r) then 1 otherwise 0) (passed_rows width l r p))
+
+    -- equal: the answer is 1
+    pub equal_yes : t ≡ true → (a : Answer) → a ≡ answer 0 1 0 → a ≡ equal_outcome width l r
+    equal_yes h a ea = ea ∙ ap (λ (x : Bool). answer 0 (if x then 1 otherwise 0) 0) (sym h) ∙ equal_passed
+
+    -- not equal: it is 0
+    pub equal_no : t ≡ false → (a : Answer) → a ≡ answer 0 0 0 → a ≡ equal_outcome width l r
+    equal_no h a ea = ea ∙ ap (λ (x : Bool). answer 0 (if x then 1 otherwise 0) 0) (sym h) ∙ equal_passed

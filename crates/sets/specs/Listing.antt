@@ -3,7 +3,7 @@ use Rattle.std.specs.Prelude.{◌≡◌, refl, true, false, ◌||◌, List, [], 
 use Rattle.std.proofs.Common.{ltb-false, sym, ◌∙◌, ap₂, subst, append-nil, arith, eqb-true, lt-ltb, le-ltb}
 use Rattle.std.proofs.Math.Path.{ap}
 use Rattle.std.proofs.Math.Nat.{mul-div_right}
-use Rattle.std.proofs.lemmas.Bool.{false≢true}
+use Rattle.std.proofs.lemmas.Bool.{eqb-false, false≢true}
 use Rattle.defs.specs.declared.Prefix.{Prefix}
 use Rattle.defs.specs.declared.Answer.{Answer}
 use Rattle.defs.specs.declared.Operation.{Operation}
@@ -25,7 +25,7 @@ use Rattle.defs.specs.PrefixLaws.{cut}
 use Rattle.bits.specs.Words.{common_len}
 use Rattle.bits.specs.CommonLaws.{common_le, common_says}
 use Rattle.pool.specs.Sound.{formed, values_before}
-use Rattle.pool.specs.Answers.{zero_says, one_says, two_says, two_else}
+use Rattle.pool.specs.Answers.{zero_says, one_says, one_of, two_says, two_else}
 use Rattle.theory.specs.declared.Level.{Level}
 use Rattle.theory.specs.Sides.{side_entries}
 use Rattle.theory.specs.declared.Covers.{Covers}
@@ -64,6 +64,14 @@ module _ (width : ℕ) (l r : Side) where
 
   pub passed_answer : Passed → answer 0 0 0 ≡ first_of (side_rows width l r) 0
   passed_answer p = sym (ap (λ (x : List Row). first_of x 0) (sym (append-nil (side_rows width l r))) ∙ first_passes (side_rows width l r) [] 0 (passed_rows p))
+
+  -- an answer of the check that is neither 1 nor 2 is 0
+  pub left_good : ((check_outcome width l.pool).number ≡ 1 → ⊥) → ((check_outcome width l.pool).number ≡ 2 → ⊥) → (check_outcome width l.pool).number ≡ 0
+  left_good a b =
+      split (eqb (check_outcome width l.pool).number 0) (λ e. eqb-true _ _ e)
+      (λ e.
+      split (eqb width 32 || eqb width 64) (λ k. absurd (b (two_else width l.pool k (eqb-false _ _ e))))
+      (λ k. absurd (a (ap (λ (x : Answer). x.number) (one_of width l.pool k)))))
 
   -- refusal 1
   pub refused_1 : (check_outcome width l.pool).number ≡ 1 → answer 1 0 0 ≡ first_of (side_rows width l r) 0
@@ -343,6 +351,40 @@ carries_none op c e = rw e (go op)
 
 -- ---- the refusals, as code tests them
 
+-- ---- the refusals, from the checks' answers
+module _ (width : ℕ) (l r : Side) (a : Answer) (ea : a ≡ check_outcome width l.pool) where
+  -- the width is not known
+  pub code_1 : a.number ≡ 1 → answer 1 0 0 ≡ first_of (side_rows width l r) 0
+  code_1 h = refused_1 width l r (sym (ap (λ (x : Answer). x.number) ea) ∙ h)
+
+  -- the left pool has a fault, whose node stands beside the answer
+  pub code_2 : a.number ≡ 2 → answer 2 a.beside 0 ≡ first_of (side_rows width l r) 0
+  code_2 h = ap (λ (x : Answer). answer 2 x.beside 0) ea ∙ refused_2 width l r (sym (ap (λ (x : Answer). x.number) ea) ∙ h)
+
+  module _ (n1 : a.number ≡ 1 → ⊥) (n2 : a.number ≡ 2 → ⊥) (b : Answer) (eb : b ≡ check_outcome width r.pool) where
+    left_none : (check_outcome width l.pool).number ≡ 0
+    left_none = left_good width l r (λ h. n1 (ap (λ (x : Answer). x.number) ea ∙ h)) (λ h. n2 (ap (λ (x : Answer). x.number) ea ∙ h))
+
+    -- the right pool has a fault
+    pub code_3 : (b.number ≡ 0 → ⊥) → answer 3 b.beside 0 ≡ first_of (side_rows width l r) 0
+    code_3 h = ap (λ (x : Answer). answer 3 x.beside 0) eb ∙ refused_3 width l r left_none (λ k. h (ap (λ (x : Answer). x.number) eb ∙ k))
+
+    module _ (h : b.number ≡ 0) where
+      right_none : (check_outcome width r.pool).number ≡ 0
+      right_none = sym (ap (λ (x : Answer). x.number) eb) ∙ h
+
+      -- the left root is longer than the width
+      pub code_4 : width < l.root.len → answer 4 0 0 ≡ first_of (side_rows width l r) 0
+      code_4 = refused_4 width l r left_none right_none
+
+      -- the right root is, and the left one is not
+      pub code_5 : l.root.len ≤ width → width < r.root.len → answer 5 0 0 ≡ first_of (side_rows width l r) 0
+      code_5 = refused_5 width l r left_none right_none
+
+      -- nothing is refused
+      pub code_0 : l.root.len ≤ width → r.root.len ≤ width → answer 0 0 0 ≡ first_of (side_rows width l r) 0
+      code_0 i k = passed_answer width l r (all_passed width l r left_none right_none i k)
+
 -- the sides that were opened are those of the call, and its tests passed
 pub record Opened (width : ℕ) (l r : Side) (s : Sides) : Type 0 where
   pub left_is : seen s.left ≡ l
@@ -389,6 +431,11 @@ module _ (width : ℕ) (l r : Side) where
 
       pub both_passed : l.root.len ≤ width → r.root.len ≤ width → Passed width l r
       both_passed = all_passed width l r left_zero right_zero
+
+-- a table that answers 0 says that all tests passed
+module _ (op : Operation) (width : ℕ) (l r : Side) (a : Answer) (ea : a ≡ first_of (side_rows width l r) 0) (z : a.number ≡ 0) where
+  pub call_passed : Passed width l r
+  call_passed = zero_passed width l r (sym (ap (λ (x : Answer). x.number) ea) ∙ z)
 
 -- ---- a list call, as code makes it
 module _ (op : Operation) (width : ℕ) (l r : Side) (p : Passed width l r) where

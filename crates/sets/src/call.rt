@@ -1,5 +1,6 @@
 // A list call from its refusals to its records: where the walk starts, how many records may come, and the room for them.
 ghost use Rattle.std.specs.Prelude.{◌≡◌, ◌*◌, ◌/◌, ◌≤◌, Ok, length};
+ghost use Rattle.defs.specs.Check.{pool_limit};
 ghost use Rattle.defs.specs.Lists.{records_of, record_words};
 ghost use Rattle.defs.specs.Outcome.{entries_of, list_outcome};
 ghost use Rattle.defs.specs.Refusals.{answer_of};
@@ -43,7 +44,8 @@ fn start(job: Job<'_>) -> Level
 
 // The values of a side's pool: those before its last node, and those in it.
 fn values_in(side: Side<'_>) -> u64
-    ensures { result ≡ values_of side.entry.words.now }
+    ensures value { result ≡ values_of side.entry.words.now }
+    ensures few { result ≤ 31 * pool_limit }
 {
     let last = side.words.len() / 4 - 1;
     let held = bits::ones(pool::data_bits(side.words, last));

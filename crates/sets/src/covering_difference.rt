@@ -30,19 +30,25 @@ fn down(right: Side<'_>, path: Prefix, node: u32, d: u32) -> Option<Node>
     Some(right.child_at(Some(node), c, view::shortened(path, d + 5)))
 }
 
-// The right view on the way to the left root: down one level at a time, until the path is covered, a child is missing, or the depth is reached.
+// The right view on the way to the left root: down one level at a time, until the path is covered, a child is missing, or the depth is reached. A loop
+// that breaks with each of the three, as docs/TRACE.md names the form, and no `for`.
 fn align(right: Side<'_>, path: Prefix, depth: u32) -> Option<Node>
     requires { depth ≤ 60 }
     ensures { result ≡ align_down (seen right.entry) path (depth / 5) 0 (Some 0) }
 {
     let mut node = 0;
-    for k in 0..depth / 5 {
-        let Some(child) = down(right, path, node, 5 * k)? else {
-            return Some(None);
-        };
-        node = child;
+    let mut level = 0;
+    loop {
+        if level == depth / 5 {
+            break Some(Some(node));
+        }
+        match down(right, path, node, 5 * level) {
+            None => break None,
+            Some(None) => break Some(None),
+            Some(Some(child)) => node = child,
+        }
+        level += 1;
     }
-    Some(Some(node))
 }
 
 // A level that has nothing to give: where the right side covers the left root.

@@ -14,10 +14,11 @@ use theory::Node;
 
 impl<'a> Sides<'a> {
     // The children of a pair at place c hold the same prefixes. One that is there and empty is as one that is not there. With no level left below, there is none.
+    // It and `pair_equal` call each other, so both sides come by reference: no frame holds a copy.
     #[cycle(child_equal_pair_equal)]
-    fn child_equal(self, p: Prefix, left: Node, right: Node, c: u32, levels: u32) -> bool
-        requires { Paired (seen self.left) (seen self.right) p left right levels × (c < 32) }
-        ensures { result ≡ child_equal (seen self.entry.left) (seen self.entry.right) levels left right p c }
+    fn child_equal(&self, p: Prefix, left: Node, right: Node, c: u32, levels: u32) -> bool
+        requires { Paired (seen self.now.left) (seen self.now.right) p left right levels × (c < 32) }
+        ensures { result ≡ child_equal (seen self.now.left) (seen self.now.right) levels left right p c }
     {
         if levels == 0 {
             return true;
@@ -30,9 +31,9 @@ impl<'a> Sides<'a> {
 
     // Two nodes of prefix p hold the same prefixes: the same data bits are kept, and so do the children of each place where either has one.
     #[cycle(child_equal_pair_equal)]
-    fn pair_equal(self, p: Prefix, left: Node, right: Node, levels: u32) -> bool
-        requires { Paired (seen self.left) (seen self.right) p left right levels }
-        ensures { result ≡ equal_at (seen self.entry.left) (seen self.entry.right) (suc levels) left right p }
+    fn pair_equal(&self, p: Prefix, left: Node, right: Node, levels: u32) -> bool
+        requires { Paired (seen self.now.left) (seen self.now.right) p left right levels }
+        ensures { result ≡ equal_at (seen self.now.left) (seen self.now.right) (suc levels) left right p }
     {
         let a = self.left.kept_data(left, p);
         let b = self.right.kept_data(right, p);

@@ -1,6 +1,6 @@
 // Writing lines into a lent buffer. A text that does not fit is cut where the buffer ends. By hand and not by `write!`: nothing allocates, and each
 // clause names the bytes that stand in the buffer, cut or not.
-ghost use Rattle.std.specs.Prelude.{◌≡◌, ◌∷◌, ◌<◌, ◌≤◌, ◌/◌, length};
+ghost use Rattle.std.specs.Prelude.{◌≡◌, [], ◌∷◌, ◌<◌, ◌≤◌, ◌/◌, length};
 ghost use Rattle.defs.specs.Lists.{record_words};
 ghost use Rattle.text.specs.Bytes.{tab};
 ghost use Rattle.text.specs.Numbers.{digits, hex_text};
@@ -19,6 +19,19 @@ fn put(text: &[u8], out: &mut [u8]) -> usize
     n
 }
 
+// Writes one byte, if there is room. Copying a slice of one byte would be a call of the C library.
+fn put_byte(b: u8, out: &mut [u8]) -> usize
+    ensures { Wrote (b ∷ []) out.old result out.new }
+{
+    match out {
+        [first, ..] => {
+            *first = b;
+            1
+        }
+        [] => 0,
+    }
+}
+
 // Writes a tab and the last k digits of a number.
 fn put_digits(n: u64, base: u64, k: usize, out: &mut [u8]) -> usize
     requires { (0 < base) × (base ≤ 16) × (k ≤ 20) }
@@ -26,7 +39,7 @@ fn put_digits(n: u64, base: u64, k: usize, out: &mut [u8]) -> usize
 {
     let mut text = [0; 20];
     spell(n, base, k, &mut text);
-    let at = put(b"\t", out);
+    let at = put_byte(b'\t', out);
     at + put(&text[..k], &mut out[at..])
 }
 
@@ -49,7 +62,8 @@ fn put_mark(mark: u64, n: u64, out: &mut [u8]) -> usize
     ensures { Wrote (mark_field mark n) out.old result out.new }
 {
     if n == mark {
-        return put(b"\t-", out);
+        let at = put_byte(b'\t', out);
+        return at + put_byte(b'-', &mut out[at..]);
     }
     put_number(n, out)
 }
@@ -69,7 +83,7 @@ fn letter(tag: u64) -> u8
 fn put_prefix(key: u64, len: u64, tag: u64, out: &mut [u8]) -> usize
     ensures { Wrote (prefix_text key len tag) out.old result out.new }
 {
-    let a = put(&[letter(tag)], out);
+    let a = put_byte(letter(tag), out);
     let b = a + put_key(key, &mut out[a..]);
     b + put_number(len, &mut out[b..])
 }
@@ -83,7 +97,7 @@ fn put_values(left: u64, right: u64, cover: u64, out: &mut [u8]) -> usize
     let a = put_mark(no_value, left, out);
     let b = a + put_mark(no_value, right, &mut out[a..]);
     let c = b + put_mark(no_cover, cover, &mut out[b..]);
-    c + put(b"\n", &mut out[c..])
+    c + put_byte(b'\n', &mut out[c..])
 }
 
 // Writes the line of the record in the first six words.
@@ -111,10 +125,10 @@ fn put_records(w: &[u64], k: usize, out: &mut [u8]) -> usize
 fn put_end(number: u32, beside: u64, out: &mut [u8]) -> usize
     ensures { Wrote (end_line number beside) out.old result out.new }
 {
-    let a = put(b"E", out);
+    let a = put_byte(b'E', out);
     let b = a + put_number(number as u64, &mut out[a..]);
     let c = b + put_number(beside, &mut out[b..]);
-    c + put(b"\n", &mut out[c..])
+    c + put_byte(b'\n', &mut out[c..])
 }
 
 // How many records are shown: those of a list that is done; equality and refusals show none. The call is what line O says, so it is a value.

@@ -40,14 +40,14 @@ pub enum Item {
 }
 
 // The longest entry of each side above a node, or none.
-#[derive(Clone, Copy, Default)]
+#[derive(Clone, Copy)]
 pub struct Covers {
     pub left: Cover,
     pub right: Cover,
 }
 
 // One level of the walk: two nodes of one prefix, the entries above them, and the places still to visit, lowest bit first.
-#[derive(Clone, Copy, Default)]
+#[derive(Clone, Copy)]
 pub struct Level {
     pub prefix: Prefix,
     pub left: Node,

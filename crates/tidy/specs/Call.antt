@@ -4,6 +4,7 @@ use Rattle.std.proofs.Math.Path.{sym, ap, subst}
 use Rattle.std.proofs.Common.{ltb-false, ap₂, ◌∙◌, arith, length-append, eqb-true, ne_eqb, lt-ltb, le-ltb}
 use mathlib.Core.List.{List, [], ◌∷◌, map}
 use Rattle.std.proofs.lemmas.List.{length-map}
+use Rattle.std.proofs.lemmas.Bool.{eqb-false}
 use Rattle.defs.specs.declared.Prefix.{Prefix}
 use Rattle.defs.specs.declared.Answer.{Answer}
 use Rattle.defs.specs.Basics.{if◌then◌otherwise◌, keep, each, up_to}
@@ -19,7 +20,7 @@ use Rattle.defs.specs.Refusals.{answer_for, checked, on_left}
 use Rattle.defs.specs.OutcomeLaws.{first_stays, first_passes, refused_keeps}
 use Rattle.bits.specs.WordLaws.{rank_all}
 use Rattle.pool.specs.Sound.{formed, data_small, values_small}
-use Rattle.pool.specs.Answers.{zero_says, one_says, two_says}
+use Rattle.pool.specs.Answers.{zero_says, one_says, one_of, two_says, two_else}
 use Rattle.tidied.specs.ListFacts.{run, up_to_run, at_run, run_from, run_below, all_up_to, length_up_to}
 use Rattle.tidied.specs.Words.{word_bit, word_lt}
 use Rattle.tidied.specs.Layout.{is_here, data_count}
@@ -208,6 +209,10 @@ module _ (width : ℕ) (s : Side) where
       none : (m : ℕ) → suc m ≡ 0 → Passed
       none m e = absurd (omega arith)
 
+  -- the same of an answer as it is given
+  pub code_passed : (a : Answer) → a ≡ first_of (pool_rows width s) 0 → a.number ≡ 0 → Passed
+  code_passed a e z = zero_passed (sym (ap (λ (x : Answer). x.number) e) ∙ z)
+
   pub passed_width : Passed → width ≤ 64
   passed_width p = split (eqb width 32) (λ a. let e = eqb-true width 32 a in omega arith) (λ a. let e = eqb-true width 64 (rw a at p.known) in omega arith)
 
@@ -217,7 +222,38 @@ module _ (width : ℕ) (s : Side) where
   pub passed_sane : Passed → Sane s.pool
   passed_sane p = record { width = width; most = passed_width p; formed = formed width s.pool p.faultless }
 
-  -- the refusals, from what the check says
+  -- the refusals, from the check's answer
+  module _ (a : Answer) (ea : a ≡ check_outcome width s.pool) where
+    number_is : a.number ≡ (check_outcome width s.pool).number
+    number_is = ap (λ (x : Answer). x.number) ea
+
+    -- the width is not known
+    pub code_1 : a.number ≡ 1 → answer 1 0 0 ≡ first_of (pool_rows width s) 0
+    code_1 h = rw (one_says width s.pool (sym number_is ∙ h))
+
+    -- the pool has a fault, whose node stands beside the answer
+    pub code_2 : a.number ≡ 2 → answer 2 a.beside 0 ≡ first_of (pool_rows width s) 0
+    code_2 h =
+        let f = two_says width s.pool (sym number_is ∙ h) in
+        ap (λ (m : ℕ). answer 2 m 0) (ap (λ (x : Answer). x.beside) ea ∙ f.node) ∙ rw (f.width_known, lt-ltb 0 (fault_of width s.pool).number f.some)
+
+    module _ (n1 : a.number ≡ 1 → ⊥) (n2 : a.number ≡ 2 → ⊥) where
+      none_else : (check_outcome width s.pool).number ≡ 0
+      none_else =
+          split (eqb (check_outcome width s.pool).number 0) (λ e. eqb-true _ _ e)
+          (λ e.
+          split (eqb width 32 || eqb width 64) (λ t. absurd (n2 (number_is ∙ two_else width s.pool t (eqb-false _ _ e))))
+          (λ t. absurd (n1 (number_is ∙ ap (λ (x : Answer). x.number) (one_of width s.pool t)))))
+
+      -- the root is longer than the width
+      pub code_4 : width < s.root.len → answer 4 0 0 ≡ first_of (pool_rows width s) 0
+      code_4 h = let z = zero_says width s.pool none_else in rw (z.0, z.1, lt-ltb width s.root.len h)
+
+      -- nothing is refused
+      pub code_0 : s.root.len ≤ width → answer 0 0 0 ≡ first_of (pool_rows width s) 0
+      code_0 h = let z = zero_says width s.pool none_else in rw (z.0, z.1, le-ltb width s.root.len h)
+
+  -- the same, from what the check says
   pub pool_refused : (e : PoolError) → checked (Err e) ≡ check_outcome width s.pool → answer_for (on_left e) ≡ first_of (pool_rows width s) 0
   pool_refused NoPool.Width h = rw (one_says width s.pool (sym (ap (λ (x : Answer). x.number) h)))
   pool_refused (NoPool.Fault fault node) h =

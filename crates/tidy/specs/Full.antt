@@ -11,9 +11,10 @@ use Rattle.defs.specs.Pool.{node_count, child_of, first_child, bit, rank}
 use Rattle.defs.specs.Tidy.{word_of}
 use Rattle.defs.specs.Lemmas.{split, not_both}
 use Rattle.bits.specs.WordLaws.{bit_zero, bit_suc, bit_none, rank_suc}
+use Rattle.bits.specs.Worked.{one_shl}
 use Rattle.bits.specs.SetBits.{Taken, lowest_inside}
 use Rattle.view.specs.Standing.{Sane, nodes_few, child_inside}
-use Rattle.view.specs.Spreads.{one, apart}
+use Rattle.view.specs.Spreads.{one, lowly, apart}
 use Rattle.view.specs.Kept.{word_more, word_below}
 use Rattle.view.specs.Emptiness.{empty_at}
 
@@ -83,6 +84,15 @@ module _ (w : List ℕ) (s : Sane w) (levels i : ℕ) (h : i < node_count w) whe
   unfolding ones_in
   asking_start left node f e n =
       record { gone = 0; within = omega arith; small = f; below = λ c l. absurd (let z : ⊥ = omega arith in z); same = λ c l. ap (bit c) e; number = omega arith; so_far = refl }
+
+  module _ (left node word : ℕ) (some : 0 < left) (k : Asking w levels i left node word) where
+    -- the lowest bit that is left is a part of what is left
+    pub asking_there : 2 ^ count_trailing_zeros 32 left ≤ left
+    asking_there = (lowly 32 left some k.small).part
+
+    -- 1 shifted by its number is its power of two
+    pub asking_shift : 1 * 2 ^ count_trailing_zeros 32 left % 2 ^ 32 ≡ 2 ^ count_trailing_zeros 32 left
+    asking_shift = one_shl 32 (count_trailing_zeros 32 left) (lowly 32 left some k.small).inside
 
   module _ (left node word z rest : ℕ) (k : Asking w levels i left node word) (n : Taken left z rest) where
     fits : left < 2 ^ 64

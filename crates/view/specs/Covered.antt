@@ -2,6 +2,7 @@
 use Rattle.std.specs.Prelude.{◌≡◌, refl, Bool, true, false, ◌&&◌, ◌||◌, List, [], ◌∷◌, ℕ, zero, suc, ◌+◌, ◌*◌, ◌/◌, ◌%◌, ◌^◌, ◌≤◌, ◌<◌, max, eqb, length, get_or}
 use Rattle.std.proofs.Common.{sym, ap, ap₂, ◌∙◌, ⊎_elim, arith, not-suc-le-zero, le_of_suc-le-suc, eq-or-lt_of_le, length-append, pow_pos, pow_mono, eqb-true, ne_eqb}
 use Rattle.std.specs.Int.Bits.{bit_or, or_step}
+use Rattle.std.specs.Int.Count.{count_trailing_zeros}
 use Rattle.std.proofs.Math.ListN.{get_or-append}
 use Rattle.std.proofs.lemmas.List.{get_or_at}
 use Rattle.defs.specs.Basics.{up_to}
@@ -12,11 +13,12 @@ use Rattle.defs.specs.Lemmas.{All, nil, more, all_imp, all_append, and_left, and
 use Rattle.bits.specs.Places.{place_len, place_value}
 use Rattle.bits.specs.PlaceLaws.{place_len_lem, place_value_lem, place_len_below, made}
 use Rattle.bits.specs.WordLaws.{bit_none}
+use Rattle.bits.specs.Worked.{one_shl}
 use Rattle.bits.specs.SetBits.{Taken, lowest_inside}
 use Rattle.theory.specs.Steps.{place_bit}
 use Rattle.theory.specs.Unwanted.{InNode}
 use Rattle.view.specs.declared.Coverage.{Coverage}
-use Rattle.view.specs.Spreads.{below_all, below_at, bit_first, bit_later, eqb_suc, apart, one, word_on}
+use Rattle.view.specs.Spreads.{below_all, below_at, bit_first, bit_later, eqb_suc, lowly, apart, one, word_on}
 
 -- some entry of a data bitmap stands above the n bits of value v
 abbrev pub covered_bits : ℕ → ℕ → ℕ → Bool
@@ -213,6 +215,15 @@ pub record Covering (whole left : ℕ) (r : Coverage) : Type 0 where
 
 pub covering_start : (whole : ℕ) → whole < 2 ^ 32 → Covering whole whole (record { «data» = 0; child = 0 })
 covering_start whole h = record { small = h; done = λ _. false; so_far = nothing_is; parts = λ x. refl }
+
+module _ (whole left : ℕ) (r : Coverage) (k : Covering whole left r) (some : 0 < left) where
+  -- the lowest bit that is left is a part of what is left
+  pub covering_there : 2 ^ count_trailing_zeros 32 left ≤ left
+  covering_there = (lowly 32 left some k.small).part
+
+  -- 1 shifted by its number is its power of two
+  pub covering_shift : 1 * 2 ^ count_trailing_zeros 32 left % 2 ^ 32 ≡ 2 ^ count_trailing_zeros 32 left
+  covering_shift = one_shl 32 (count_trailing_zeros 32 left) (lowly 32 left some k.small).inside
 
 module _ (whole left z rest : ℕ) (r : Coverage) (k : Covering whole left r) (n : Taken left z rest) where
   fits : left < 2 ^ 64

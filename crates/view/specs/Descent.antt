@@ -111,6 +111,10 @@ module _ (w : List ℕ) (root : Prefix) where
   node_down_in s zero = s.formed.some
   node_down_in s (suc k) = down_in s (node_down w root k) (5 * k) (node_down_in s k)
 
+-- a root's next 5 bits, as they are worked out
+pub next_bits_lem : (key d : ℕ) → d ≤ 59 → key / 2 ^ (59 - d) % 32 ≡ next_bits d 5 key
+next_bits_lem key d l = let e : 59 - d ≡ 64 - (d + 5) = omega arith in ap (λ (x : ℕ). key / 2 ^ x % 32) e
+
 -- the node of a root's place, as the code finds it
 pub found_node : (w : List ℕ) (root : Prefix) (r : Node) → r ≡ node_down w root (root.len / 5 * 5 / 5) → r ≡ node_down w root (root.len / 5)
 found_node w root r e = let k : root.len / 5 * 5 / 5 ≡ root.len / 5 = omega arith in e ∙ ap (node_down w root) k

@@ -11,7 +11,7 @@ use Rattle.defs.specs.Tidy.{word_of}
 use Rattle.defs.specs.Lemmas.{All, nil, more, split, and_left, and_right}
 use Rattle.bits.specs.WordLaws.{bit_zero, bit_suc}
 use Rattle.bits.specs.Worked.{one_shl}
-use Rattle.bits.specs.SetBits.{Taken, lowest_inside}
+use Rattle.bits.specs.SetBits.{Taken, lowest_there, lowest_inside}
 use Rattle.theory.specs.Steps.{place_bit}
 use Rattle.theory.specs.Todo.{word_lt}
 use Rattle.theory.specs.Unwanted.{InNode, places_in_node}
@@ -123,6 +123,22 @@ module _ (t z rest : ℕ) (fits : t < 2 ^ 64) (n : Taken t z rest) where
   parted : spread_of t ≡ alone_of z + spread_of rest
   parted = word_sum (λ x. bit (code_of x) t) (λ x. eqb (code_of x) z) (λ x. bit (code_of x) rest) (λ x. apart (code_of x)) places
 
+-- the lowest bit's place alone, and the word of the others
+pub record Lowest-place (t : ℕ) : Type 0 where
+  pub inside : count_trailing_zeros 64 t < 63
+  pub there : 2 ^ count_trailing_zeros 64 t ≤ t
+  pub parts : spread_of t ≡ alone_of (count_trailing_zeros 64 t) + spread_of (t - 2 ^ count_trailing_zeros 64 t)
+
+pub lowest_place : (t : ℕ) → 0 < t → t < 2 ^ 63 → Lowest-place t
+lowest_place t h b =
+    let fits : t < 2 ^ 64 = omega arith in
+    let n : Taken t (count_trailing_zeros 64 t) (t - 2 ^ count_trailing_zeros 64 t) = (h, refl, refl) in
+    record {
+      inside = lowest_inside t (count_trailing_zeros 64 t) (t - 2 ^ count_trailing_zeros 64 t) fits n 63 b;
+      there = lowest_there t (count_trailing_zeros 64 t) (t - 2 ^ count_trailing_zeros 64 t) fits n;
+      parts = parted t (count_trailing_zeros 64 t) (t - 2 ^ count_trailing_zeros 64 t) fits n;
+    }
+
 pub spread_small : (t : ℕ) → spread_of t < 2 ^ 63
 spread_small t = subst (λ (n : ℕ). spread_of t < 2 ^ n) places_length (word_lt (λ x. bit (code_of x) t) places)
 
@@ -203,6 +219,10 @@ module _ (whole left word z rest : ℕ) (k : Spreading whole left word) (n : Tak
         room = omega (arith, k.parts);
         again = record { small = omega (arith, k.small, n.2); parts = omega (arith, k.parts) };
       }
+
+-- at first nothing is written, and all is left
+pub spread_start : (whole : ℕ) → whole < 2 ^ 63 → Spreading whole whole 0
+spread_start whole h = record { small = h; parts = omega arith }
 
 pub spread_end : (whole left word d c : ℕ) → Spreading whole left word → left ≡ 0 → whole ≡ both_of d c → word ≡ word_of (place_bit d c) places
 spread_end whole left word d c k z e =

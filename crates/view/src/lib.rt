@@ -348,8 +348,8 @@ pub struct Coverage {
     pub child: u32,
 }
 
-// What the entry of each data bit covers.
-const COVERED: [Coverage; 32] = [
+// What the entry of each data bit covers. A `static` and no `const`: each look-up in a constant table of structs lays all of it on the stack first.
+static COVERED: [Coverage; 32] = [
     Coverage {
         data: 0x7fffffff,
         child: 0xffffffff,

@@ -1,9 +1,10 @@
 -- The loop that counts and writes: its invariant, and what a turn does to it.
-use Rattle.std.specs.Prelude.{◌≡◌, refl, Bool, true, false, List, [], ◌∷◌, ◌++◌, ℕ, ◌+◌, ◌*◌, ◌-◌, ◌^◌, ◌≤◌, ◌<◌, eqb, leb, length, reverse, drop, None, Some}
+use Rattle.std.specs.Prelude.{◌≡◌, refl, Bool, true, false, List, [], ◌∷◌, ◌++◌, ℕ, ◌+◌, ◌*◌, ◌-◌, ◌^◌, ◌≤◌, ◌<◌, eqb, leb, length, reverse, take, drop, get_or, set, None, Some}
 use Rattle.std.proofs.Common.{sym, ◌∙◌, ap, subst, arith, length-append, leb-false}
 use Rattle.std.specs.Int.Count.{count_trailing_zeros}
 use Rattle.std.proofs.lemmas.Bool.{eqb-false}
-use Rattle.std.proofs.lemmas.List.{reverse-append, length-reverse}
+use Rattle.std.proofs.lemmas.List.{reverse-append, length-reverse, length-take-le, take_more, take_more_set, length-set}
+use Rattle.std.proofs.lemmas.Grind.{take-set_at}
 use borrow.Rule.Slice.PartMut.{put_mid, mid_of, put_same}
 use Rattle.defs.specs.declared.Prefix.{Prefix}
 use Rattle.defs.specs.Prefix.{deeper}
@@ -22,7 +23,7 @@ use Rattle.theory.specs.Todo.{lowest}
 use Rattle.theory.specs.Unwanted.{InNode}
 use Rattle.theory.specs.Walk.{LevelOk, places_length}
 use Rattle.theory.specs.Stack.{given_after, stack_after, Leaves, stack_cost}
-use Rattle.theory.specs.Loop.{records_words, Walking, roomy, begin, turn, fewer, within, Written, nothing_written, written_more}
+use Rattle.theory.specs.Loop.{records_words, Walking, roomy, begin, turn, fewer, within, finished, Written, nothing_written, written_more}
 use Rattle.rules.specs.Records.{moved, front_of}
 use Rattle.view.specs.Standing.{child_in_lem}
 use Rattle.view.specs.Numbers.{place_inside}
@@ -103,6 +104,11 @@ pub record Placed (writes : Bool) (old out : List ℕ) (at count : ℕ) (done : 
 pub placed_none : (writes : Bool) (old : List ℕ) → Placed writes old old 0 0 []
 placed_none true old = record { counted = refl; written = nothing_written old; next = refl }
 placed_none false old = record { counted = refl; written = nothing_written old; next = refl }
+
+-- where all are given, their number and the buffer are those of the whole list
+pub placed_all : (writes : Bool) (old out : List ℕ) (at count : ℕ) (whole : List Record) → Placed writes old out at count whole
+    → (count ≡ length whole) × (out ≡ kept_or_written writes whole old)
+placed_all writes old out at count whole p = (p.counted, p.written.front)
 
 -- where the next record goes there is room for what is written of it
 pub placed_room : (writes : Bool) (old out : List ℕ) (at count : ℕ) (done whole : List Record) → Placed writes old out at count done → length done + 1 ≤ length whole
@@ -213,3 +219,96 @@ module _ {j : Job} {start : Level} {writes : Bool} {old : List ℕ} {xs : List L
 
         pub fewer_down : steps_left vs < steps_left xs
         fewer_down = less (step.Down g h) (sym e ∙ is) vs two
+
+-- ---- the stack as an array: of its 13 levels the first `height` are on the stack, the highest last
+pub record Stacked (j : Job) (start : Level) (writes : Bool) (old : List ℕ) (stack : List Level) (height : ℕ) (out : List ℕ) (at count : ℕ) : Type 0 where
+  pub size : length stack ≡ 13
+  pub low : height ≤ 13
+  pub runs : Running j start writes old (take height stack) out at count
+
+-- with no level left, all is given
+pub ended : {j : Job} {start : Level} {writes : Bool} {old : List ℕ} {stack : List Level} {height : ℕ} {out : List ℕ} {at count : ℕ}
+    → Stacked j start writes old stack height out at count → height ≡ 0
+    → (count ≡ length (level_rest j start)) × (out ≡ kept_or_written writes (level_rest j start) old)
+ended {j} {start} {writes} {old} {stack} r e =
+    let w = subst (λ (n : ℕ). Walks j (reverse (take n stack)) r.runs.done (level_rest j start)) e r.runs.walks in
+    let d = finished j (Safe j) (safe_leaves j) r.runs.done (level_rest j start) w in
+    (r.runs.placed.counted ∙ ap length d, r.runs.placed.written.front ∙ ap (λ (rs : List Record). kept_or_written writes rs old) d)
+
+-- a turn: the level at `height - 1` is the highest
+module _ {j : Job} {start : Level} {writes : Bool} {old : List ℕ} {stack : List Level} {height : ℕ} {out : List ℕ} {at count : ℕ}
+    (r : Stacked j start writes old stack height out at count) (some : 0 < height) (d : Level) where
+  abbrev highest : Level
+  highest = get_or stack (height - 1) d
+
+  abbrev others : List Level
+  others = take (height - 1) stack
+
+  inside : height - 1 < length stack
+  inside = omega (arith, r.low, r.size)
+
+  on_others : take height stack ≡ others ++ highest ∷ []
+  on_others =
+      let e : height - 1 + 1 ≡ height = omega arith in
+      subst (λ (n : ℕ). take n stack ≡ others ++ highest ∷ []) e (take_more stack (height - 1) d inside)
+
+  -- another level in its place
+  replaced : (g : Level) → take height (set stack (height - 1) g) ≡ others ++ g ∷ []
+  replaced g = take-set_at stack (height - 1) height g (omega arith) inside
+
+  same_size : (g : Level) → length (set stack (height - 1) g) ≡ 13
+  same_size g = length-set stack (height - 1) g ∙ r.size
+
+  pub highest_ready : Ready j highest
+  highest_ready = let w = walks_top others highest r.runs on_others in record { at = w.levels.0.safe; ok = w.levels.0.ok }
+
+  module _ {s : Step} (is : s ≡ step_of j highest) where
+    module _ (e : s ≡ step.Up) where
+      pub up_stays : Stacked j start writes old stack (height - 1) out at count
+      up_stays = record { size = r.size; low = omega (arith, r.low); runs = run_up others highest r.runs on_others is e }
+
+      pub up_fewer : steps_left others < steps_left (take height stack)
+      up_fewer = less others highest r.runs on_others step.Up (sym e ∙ is) others refl
+
+    module _ {g : Level} (e : s ≡ step.Skip g) where
+      pub skip_stays : Stacked j start writes old (set stack (height - 1) g) height out at count
+      skip_stays = record { size = same_size g; low = r.low; runs = run_skip others highest r.runs on_others is e (replaced g) }
+
+      pub skip_fewer : steps_left (take height (set stack (height - 1) g)) < steps_left (take height stack)
+      skip_fewer = fewer_skip others highest r.runs on_others is e (replaced g)
+
+    module _ {i : Item} {g : Level} (e : s ≡ step.Record i g) where
+      pub record_more : length r.runs.done + 1 ≤ length (level_rest j start)
+      record_more = run_more others highest r.runs on_others is e (replaced g)
+
+      pub record_space : Room writes (level_rest j start) old → at + moved writes ≤ length out
+      record_space = run_space others highest r.runs on_others is e (replaced g)
+
+      pub record_stays : Room writes (level_rest j start) old → {part : List ℕ} {n : ℕ} → part ≡ front_of writes (item_record i) (mid_of at (length out - at) out) → n ≡ moved writes
+          → Stacked j start writes old (set stack (height - 1) g) height (put_mid at (length out - at) out part) (at + n) (count + 1)
+      record_stays h p m = record { size = same_size g; low = r.low; runs = run_record others highest r.runs on_others is e (replaced g) h p m }
+
+      pub record_fewer : steps_left (take height (set stack (height - 1) g)) < steps_left (take height stack)
+      record_fewer = fewer_record others highest r.runs on_others is e (replaced g)
+
+    module _ {g b : Level} (e : s ≡ step.Down g b) where
+      -- the array has room for the level below
+      pub down_room : height < 13
+      down_room =
+          let a = room_below others highest r.runs on_others is e (replaced g) in
+          let b = length-take-le height (set stack (height - 1) g) (omega (arith, same_size g, r.low)) in
+          omega (arith, a, b)
+
+      two_levels : take (height + 1) (set (set stack (height - 1) g) height b) ≡ take height (set stack (height - 1) g) ++ b ∷ []
+      two_levels = take_more_set (set stack (height - 1) g) height b (omega (arith, down_room, same_size g))
+
+      pub down_stays : Stacked j start writes old (set (set stack (height - 1) g) height b) (height + 1) out at count
+      down_stays =
+          record {
+            size = length-set (set stack (height - 1) g) height b ∙ same_size g;
+            low = omega (arith, down_room);
+            runs = run_down others highest r.runs on_others is e (replaced g) two_levels;
+          }
+
+      pub down_fewer : steps_left (take (height + 1) (set (set stack (height - 1) g) height b)) < steps_left (take height stack)
+      down_fewer = fewer_down others highest r.runs on_others is e (replaced g) two_levels

@@ -1,6 +1,6 @@
 -- What the walk's functions work out is what the walk's definition says, one function after the other.
 use Rattle.std.specs.Prelude.{◌≡◌, refl, ℕ, ◌*◌, ◌-◌, ◌%◌, ◌^◌, ◌≤◌, ◌<◌, None, Some}
-use Rattle.std.proofs.Common.{sym, ◌∙◌, ap, ap₂, subst, arith, ne_eqb}
+use Rattle.std.proofs.Common.{sym, ◌∙◌, ap, ap₂, subst, arith, eq-eqb, ne_eqb, le-leb}
 use Rattle.std.specs.Int.Count.{count_trailing_zeros}
 use Rattle.std.proofs.lemmas.Bool.{lt-leb}
 use Rattle.defs.specs.declared.Prefix.{Prefix}
@@ -64,6 +64,13 @@ emit_needed CoveringUnion q None (Some b) c = refl
 emit_needed CoveringUnion q (Some a) None c = refl
 emit_needed CoveringUnion q (Some a) (Some b) c = refl
 
+carried_again : (op : Operation) (c : Covers) → carried op (carried op c) ≡ carried op c
+carried_again Union c = refl
+carried_again Intersection c = refl
+carried_again Difference c = refl
+carried_again CoveringDifference c = refl
+carried_again CoveringUnion c = refl
+
 module _ {j : Job} {f : Level} (pass : Passing j f) (fits : f.prefix.key < 2 ^ 64) {h : ℕ} where
   -- a data place
   module _ (some : 0 < h) (low : h < 32) {q : Prefix} (eq : q ≡ place_prefix f.prefix h) where
@@ -75,7 +82,7 @@ module _ {j : Job} {f : Level} (pass : Passing j f) (fits : f.prefix.key < 2 ^ 6
     module _ {a b : Value} (ea : a ≡ value_in j.left.pool j.left.root f.left (place_len h) (place_value h) q)
         (eb : b ≡ value_in j.right.pool j.right.root f.right (place_len h) (place_value h) q)
         {c : Covers} (ec : c ≡ needed j.op a b (covers_at j f (place_len h) (place_value h))) {e : Emit} (ee : e ≡ emit_of j.op q a b c.left c.right) where
-      data_step : given e f ≡ step_at j f (data_place (place_len h) (place_value h))
+      pub data_step : given e f ≡ step_at j f (data_place (place_len h) (place_value h))
       data_step =
           let n = place_len h in
           let v = place_value h in
@@ -93,6 +100,10 @@ module _ {j : Job} {f : Level} (pass : Passing j f) (fits : f.prefix.key < 2 ^ 6
 
   -- a child place
   module _ (from : 32 ≤ h) (below : h < 64) where
+    -- at the last depth there is no child
+    pub child_last : 60 ≤ f.prefix.len → step.Skip f ≡ step_at j f (child_place (h - 32))
+    child_last l = rw (le-leb 60 f.prefix.len l)
+
     module _ (deep : f.prefix.len < 60) {q : Prefix} (eq : q ≡ place_prefix f.prefix h) where
       child_prefix : q ≡ deeper f.prefix 5 (h - 32)
       child_prefix =
@@ -113,6 +124,10 @@ module _ {j : Job} {f : Level} (pass : Passing j f) (fits : f.prefix.key < 2 ^ 6
               fives = let e = ap (λ (x : Prefix). x.len) child_prefix in let m = pass.at.fives in omega arith;
             }
 
+        -- what is carried to a child is carried on as it is
+        pub child_carries : carried j.op above ≡ above
+        child_carries = rw ea (carried_again j.op (covers_at j f (place_len h) (place_value h)))
+
         pub child_step : {s : Step} → s ≡ down_to j f q l r above → s ≡ step_at j f (child_place (h - 32))
         child_step e =
             let c = child_place_lem h from below in
@@ -122,6 +137,10 @@ module _ {j : Job} {f : Level} (pass : Passing j f) (fits : f.prefix.key < 2 ^ 6
 module _ {j : Job} {f : Level} (ready : Ready j f) where
   abbrev z : ℕ
   z = count_trailing_zeros 64 f.todo
+
+  -- where no place is left, the step is up
+  pub step_up : f.todo ≡ 0 → step.Up ≡ step_of j f
+  step_up e = rw (eq-eqb f.todo 0 e)
 
   module _ (left : f.todo ≡ 0 → ⊥) where
     some : 0 < f.todo
@@ -145,6 +164,10 @@ module _ {j : Job} {f : Level} (ready : Ready j f) where
 
     numbered : Numbered (place_at z) (number_of (place_at z))
     numbered = place_numbered z place_below
+
+    -- a place's number is above 0
+    pub number_some : (h : ℕ) → h ≡ number_of (place_at z) → 0 < h
+    number_some h e = let n = numbered.some in omega arith
 
     pub number_below : {h : ℕ} → h ≡ number_of (place_at z) → h < 64
     number_below e = let n = numbered.below in omega arith

@@ -13,7 +13,6 @@ ghost use Rattle.walk.specs.Maps.{maps_of};
 ghost use Rattle.walk.specs.Moves.{shown_to, needed};
 ghost use Rattle.walk.specs.Loops.{Room, kept_or_written};
 
-use arrayvec::ArrayVec;
 use defs::{Operation, Prefix};
 use theory::{Covers, Item, Level, Node, Step, Value};
 use view::{Bitmaps, Coverage, Side};
@@ -197,7 +196,8 @@ impl<'a> Job<'a> {
 
     // The walk from a level on: how many records there are, each written after the last one where that is asked for. A flag and a buffer, since no
     // clause could say readably what an Option of the buffer leaves behind; and a place in it, since a proof knows no element of what
-    // `chunks_exact_mut` has lent.
+    // `chunks_exact_mut` has lent. The stack is an array and its height, and no `ArrayVec`: that one blanks its room by `memset`, a name that the archive
+    // for C would ask for from outside.
     pub fn run(self, start: Level, writes: bool, out: &mut [u64]) -> u64
         requires ready { Ready (job_of self) start }
         requires count_fits { length (level_rest (job_of self) start) < 2 ^ 64 }
@@ -205,22 +205,24 @@ impl<'a> Job<'a> {
         ensures { (result ≡ length (level_rest (job_of self.entry) start))
             × (out.new ≡ kept_or_written writes (level_rest (job_of self.entry) start) out.old) }
     {
-        let mut stack = ArrayVec::<Level, 13>::new();
-        stack.push(start);
+        let mut stack = [start; 13];
+        let mut height: usize = 1;
         let mut count: u64 = 0;
         let mut at: usize = 0;
-        while let Some(top) = stack.pop() {
-            match self.step(top) {
-                Step::Up => {}
-                Step::Skip(f) => stack.push(f),
+        while 0 < height {
+            let top = height - 1;
+            match self.step(stack[top]) {
+                Step::Up => height = top,
+                Step::Skip(f) => stack[top] = f,
                 Step::Record(i, f) => {
-                    stack.push(f);
+                    stack[top] = f;
                     at += rules::record::put_if(writes, &mut out[at..], i);
                     count += 1;
                 }
                 Step::Down(f, g) => {
-                    stack.push(f);
-                    stack.push(g);
+                    stack[top] = f;
+                    stack[height] = g;
+                    height += 1;
                 }
             }
         }

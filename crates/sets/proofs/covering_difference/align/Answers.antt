@@ -7,20 +7,14 @@ use Rattle.view.specs.Standing.{sane_formed}
 use Rattle.sets.specs.Aligned as al
 use Rattle.sets.proofs.covering_difference.align.Goals as goal
 
-pub loop-k-init : goal.loop-k-init
-loop-k-init c = al.aligning_start (seen c.args.right) (sane_formed _ c.args.right.formed) _ _
+pub returns-in-None : goal.returns-in-None
+returns-in-None c = al.aligned_covered (seen c.args.right) c.args.path (c.args.depth / 5) _ _ c.loop-level.invariant.0 (omega (arith, c.loop-level.invariant.1, c.if-level-depth.false)) _ c.down.ensures c.in-None.is
 
-pub down-requires : goal.down-requires
-down-requires c = (c.loop-k.invariant.inside, omega (arith, c.requires))
+pub returns-in-Some-None : goal.returns-in-Some-None
+returns-in-Some-None c = al.aligned_missing (seen c.args.right) c.args.path (c.args.depth / 5) _ _ c.loop-level.invariant.0 (omega (arith, c.loop-level.invariant.1, c.if-level-depth.false)) _ c.down.ensures (c.in-Some-None.is ∙ ap Some c.in-Some-None.field-0-is)
 
-pub returns-in_err-child : goal.returns-in_err-child
-returns-in_err-child c = c.from_residual.ensures ∙ al.aligned_covered (seen c.args.right) c.args.path (c.args.depth / 5) _ _ c.loop-k.invariant c.loop-k-test.true _ c.down.ensures c.in_err-child.was
-
-pub returns-in_default : goal.returns-in_default
-returns-in_default c = al.aligned_missing (seen c.args.right) c.args.path (c.args.depth / 5) _ _ c.loop-k.invariant c.loop-k-test.true _ c.down.ensures (c.in_ok-child.was ∙ ap Some c.in_default.is)
-
-pub loop-k-preserved : goal.loop-k-preserved
-loop-k-preserved c = al.aligning_on (seen c.args.right) c.args.path (c.args.depth / 5) _ _ c.loop-k.invariant c.loop-k-test.true _ c.down.ensures (sane_formed _ c.args.right.formed) _ (c.in_ok-child.was ∙ ap Some c.in-Some.is)
-
-pub returns : goal.returns
-returns c = al.aligned_there (seen c.args.right) c.args.path (c.args.depth / 5) _ _ c.loop-k.invariant (omega arith)
+pub loop-level-preserved : goal.loop-level-preserved
+loop-level-preserved c = (
+  al.aligning_on (seen c.args.right) c.args.path (c.args.depth / 5) _ _ c.loop-level.invariant.0 (omega (arith, c.loop-level.invariant.1, c.if-level-depth.false)) _ c.down.ensures (sane_formed _ c.args.right.formed) _ (c.in-Some-Some.is ∙ ap Some c.in-Some-Some.field-0-is),
+  omega (arith, c.loop-level.invariant.1, c.if-level-depth.false),
+)

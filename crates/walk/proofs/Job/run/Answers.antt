@@ -1,37 +1,47 @@
 use native.Mathlib.Omega.{arith}
 use lib.ListN.{length-take, length-drop}
+use Rattle.std.proofs.Common.{refl}
 use Rattle.walk.specs.Loops as loops
 use Rattle.walk.proofs.Job.run.Goals as goal
 
-pub loop-top-init : goal.loop-top-init
-loop-top-init c = rw (c.push.ensures.items, c.new-stack.ensures) (loops.run_start c.requires.ready c.args.writes c.args.out.now)
+pub loop-height-init : goal.loop-height-init
+loop-height-init c = record { size = refl; low = omega arith; runs = loops.run_start c.requires.ready c.args.writes c.args.out.now }
 
-pub loop-top-preserved-in-Up : goal.loop-top-preserved-in-Up
-loop-top-preserved-in-Up c = loops.run_up _ _ c.loop-top.invariant c.in-Some.ensures.items c.step.ensures c.in-Up.is
+pub step-requires : goal.step-requires
+step-requires c = loops.highest_ready c.loop-height.invariant c.loop-height-test.true _
 
-pub loop-top-smaller-in-Skip : goal.loop-top-smaller-in-Skip
-loop-top-smaller-in-Skip c = loops.fewer_skip _ _ c.loop-top.invariant c.in-Some.ensures.items c.step.ensures c.in-Skip.is c.push-in-Skip.ensures.items
+pub loop-height-smaller-in-Up : goal.loop-height-smaller-in-Up
+loop-height-smaller-in-Up c = loops.up_fewer c.loop-height.invariant c.loop-height-test.true _ c.step.ensures c.in-Up.is
 
-pub loop-top-preserved-in-Skip : goal.loop-top-preserved-in-Skip
-loop-top-preserved-in-Skip c = loops.run_skip _ _ c.loop-top.invariant c.in-Some.ensures.items c.step.ensures c.in-Skip.is c.push-in-Skip.ensures.items
+pub loop-height-preserved-in-Up : goal.loop-height-preserved-in-Up
+loop-height-preserved-in-Up c = loops.up_stays c.loop-height.invariant c.loop-height-test.true _ c.step.ensures c.in-Up.is
+
+pub loop-height-smaller-in-Skip : goal.loop-height-smaller-in-Skip
+loop-height-smaller-in-Skip c = loops.skip_fewer c.loop-height.invariant c.loop-height-test.true _ c.step.ensures c.in-Skip.is
+
+pub loop-height-preserved-in-Skip : goal.loop-height-preserved-in-Skip
+loop-height-preserved-in-Skip c = loops.skip_stays c.loop-height.invariant c.loop-height-test.true _ c.step.ensures c.in-Skip.is
 
 pub put_if-at-requires : goal.put_if-at-requires
-put_if-at-requires c = rw (length-take, length-drop) (let r = loops.run_space _ _ c.loop-top.invariant c.in-Some.ensures.items c.step.ensures c.in-Record.is c.push-in-Record.ensures.items c.requires.room in omega arith)
+put_if-at-requires c = rw (length-take, length-drop) (let r = loops.record_space c.loop-height.invariant c.loop-height-test.true _ c.step.ensures c.in-Record.is c.requires.room in omega arith)
 
 pub overflow_add-count : goal.overflow_add-count
-overflow_add-count c = let r = loops.run_more _ _ c.loop-top.invariant c.in-Some.ensures.items c.step.ensures c.in-Record.is c.push-in-Record.ensures.items in omega (arith, c.loop-top.invariant.placed.counted, c.requires.count_fits)
+overflow_add-count c = let r = loops.record_more c.loop-height.invariant c.loop-height-test.true _ c.step.ensures c.in-Record.is in omega (arith, c.loop-height.invariant.runs.placed.counted, c.requires.count_fits)
 
-pub loop-top-smaller-in-Record : goal.loop-top-smaller-in-Record
-loop-top-smaller-in-Record c = loops.fewer_record _ _ c.loop-top.invariant c.in-Some.ensures.items c.step.ensures c.in-Record.is c.push-in-Record.ensures.items
+pub loop-height-smaller-in-Record : goal.loop-height-smaller-in-Record
+loop-height-smaller-in-Record c = loops.record_fewer c.loop-height.invariant c.loop-height-test.true _ c.step.ensures c.in-Record.is
 
-pub loop-top-preserved-in-Record : goal.loop-top-preserved-in-Record
-loop-top-preserved-in-Record c = loops.run_record _ _ c.loop-top.invariant c.in-Some.ensures.items c.step.ensures c.in-Record.is c.push-in-Record.ensures.items c.requires.room c.put_if-at.ensures.1 c.put_if-at.ensures.0
+pub loop-height-preserved-in-Record : goal.loop-height-preserved-in-Record
+loop-height-preserved-in-Record c = loops.record_stays c.loop-height.invariant c.loop-height-test.true _ c.step.ensures c.in-Record.is c.requires.room c.put_if-at.ensures.1 c.put_if-at.ensures.0
 
-pub push-requires-in-Down-2 : goal.push-requires-in-Down-2
-push-requires-in-Down-2 c = (omega arith, loops.room_below _ _ c.loop-top.invariant c.in-Some.ensures.items c.step.ensures c.in-Down.is c.push-in-Down.ensures.items)
+pub bounds-stack-height : goal.bounds-stack-height
+bounds-stack-height c = loops.down_room c.loop-height.invariant c.loop-height-test.true _ c.step.ensures c.in-Down.is
 
-pub loop-top-smaller : goal.loop-top-smaller
-loop-top-smaller c = loops.fewer_down _ _ c.loop-top.invariant c.in-Some.ensures.items c.step.ensures c.in-Down.is c.push-in-Down.ensures.items c.push-in-Down-2.ensures.items
+pub loop-height-smaller : goal.loop-height-smaller
+loop-height-smaller c = loops.down_fewer c.loop-height.invariant c.loop-height-test.true _ c.step.ensures c.in-Down.is
 
-pub loop-top-preserved : goal.loop-top-preserved
-loop-top-preserved c = loops.run_down _ _ c.loop-top.invariant c.in-Some.ensures.items c.step.ensures c.in-Down.is c.push-in-Down.ensures.items c.push-in-Down-2.ensures.items
+pub loop-height-preserved : goal.loop-height-preserved
+loop-height-preserved c = loops.down_stays c.loop-height.invariant c.loop-height-test.true _ c.step.ensures c.in-Down.is
+
+pub returns : goal.returns
+returns c = loops.ended c.loop-height.invariant (omega arith)
